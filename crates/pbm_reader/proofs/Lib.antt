@@ -1,0 +1,10 @@
+pub mod Taken
+pub mod Copied
+pub mod HeaderSteps
+pub mod HeaderLaws
+pub mod PageLaws
+pub mod FaultLaws
+pub mod HeaderLoop
+pub mod Pixels
+pub mod RowLoop
+pub mod WholePage

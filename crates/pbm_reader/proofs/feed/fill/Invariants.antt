@@ -1,0 +1,13 @@
+use Rattle.std.proofs.Common.{◌≤◌, ◌-◌, take, length}
+use Rattle.pbm_reader.specs.Left.{left_of, Took}
+use Rattle.pbm_reader.proofs.feed.fill.Given as goal
+
+abbrev pub invariant-loop-at : goal.invariant-loop-at
+invariant-loop-at g l = record {
+  took : Took (left_of (g.S.Source.left l.initial.src) l.initial.feed) (left_of (g.S.Source.left l.src) l.feed) (take l.at l.buf);
+  within : l.at ≤ length l.buf;
+  later : g.S.Source.faults l.initial.src ≤ g.S.Source.faults l.src;
+}
+
+abbrev pub decreases-loop-at : goal.decreases-loop-at
+decreases-loop-at g l = length l.initial.buf - l.at

@@ -1,0 +1,63 @@
+//! A whole page, from the first byte of the input to its end.
+ghost use Rattle.std.specs.Prelude.{◌≡◌, ℕ, List, [], Some, IfOk, IfErr, OnErr, IsOkUnless};
+ghost use Rattle.layout_outside.specs.Causes.{Rose};
+ghost use Rattle.pbm_reader.specs.Spelling.{IsPage};
+ghost use Rattle.pbm_reader.specs.Given.{AfterFault};
+ghost use Rattle.pbm_reader.specs.Left.{left_of};
+ghost use Rattle.pbm_reader.specs.Reading.{HasReadCause, ReadsPage, Refuses};
+
+use crate::fault::{PageFault, Size};
+use crate::feed::{Feed, next_byte};
+use crate::header::read_header;
+use crate::raster::read_raster;
+use crate::row_sink::RowSink;
+use layout_outside::Source;
+use std::alloc::Global;
+
+/// Reads a page of Netpbm's raw PBM, in the narrow form, to the end of the input, and gives its rows
+/// to the sink from the top. Memory is taken for one piece of the input and one row.
+///
+/// `begin` is called once, when the header is whole, and `row` once for each row. Where the page is
+/// refused the sink was given nothing, or top rows that are whole in the input.
+pub fn read_page<S: Source, R: RowSink>(
+    alloc: Global,
+    src: &mut S,
+    rows: &mut R,
+) -> Result<Size, PageFault>
+    // The input was read to its end, it spells a page, and the sink was given the page.
+    ensures page { IfOk result (ReadsPage R.begun R.given (S.left src.old) (S.left src.new) rows.old rows.new) }
+    // The input has just this fault; or a read failed, and the bytes taken decide no fault.
+    ensures fault { IfErr result (Refuses (S.left src.old) (S.left src.new)) }
+    // After a fault the sink was given nothing, or top rows of the page that the input begins.
+    ensures top { OnErr result (AfterFault R.begun R.given R.unchanged (S.left src.old) rows.old rows.new) }
+    ensures cause { HasReadCause (S.faults src.old) (S.faults src.new) result }
+    // Where the input spells a page and no read failed, the page is read unless memory is refused.
+    ensures complete { (input : List ℕ) → S.left src.old ≡ Some input → IsPage input
+        → ¬ Rose (S.faults src.old) (S.faults src.new) → IsOkUnless result PageFault.Memory }
+{
+    let mut feed = Feed::new(alloc)?;
+    read_from(alloc, src, &mut feed, rows)
+}
+
+/// Reads a page out of a feed.
+fn read_from<S: Source, R: RowSink>(
+    alloc: Global,
+    src: &mut S,
+    feed: &mut Feed,
+    rows: &mut R,
+) -> Result<Size, PageFault>
+    ensures page { IfOk result (ReadsPage R.begun R.given (left_of (S.left src.old) feed.old)
+        (left_of (S.left src.new) feed.new) rows.old rows.new) }
+    ensures fault { IfErr result (Refuses (left_of (S.left src.old) feed.old) (left_of (S.left src.new) feed.new)) }
+    ensures top { OnErr result (AfterFault R.begun R.given R.unchanged (left_of (S.left src.old) feed.old) rows.old rows.new) }
+    ensures drained { result ≡ Err PageFault.ReadFault → feed.new ≡ [] }
+    ensures cause { HasReadCause (S.faults src.old) (S.faults src.new) result }
+{
+    let header = read_header(src, feed)?;
+    rows.begin(header.size.width, header.size.height)?;
+    let end = read_raster(alloc, src, feed, header, rows)?;
+    match next_byte(src, feed)? {
+        None => Ok(header.size),
+        Some(_) => Err(PageFault::Trailing { at: end }),
+    }
+}

@@ -1,0 +1,122 @@
+//! The rows of a page.
+ghost use Rattle.std.specs.Prelude.{◌≡◌, ◌<◌, ◌≤◌, ◌+◌, ◌*◌, ◌^◌, ℕ, List, [], length, IfOk, IfErr, OnOk, OnErr};
+ghost use Rattle.pbm_reader.specs.Reading.{HasReadCause};
+ghost use Rattle.pbm_reader.specs.Left.{left_of, Took};
+ghost use Rattle.pbm_reader.specs.Given.{Stays};
+ghost use Rattle.pbm_reader.specs.Page.{IsPageSize, row_len};
+ghost use Rattle.pbm_reader.specs.Raster.{IsCleared, BytesFail, GivenRows, GivenTopRows, TakesRow};
+
+use crate::fault::PageFault;
+use crate::feed::{Feed, fill};
+use crate::header::Header;
+use crate::row_sink::RowSink;
+use layout_outside::Source;
+use std::alloc::Global;
+
+/// How many bytes a row of this width takes.
+fn row_len(width: u16) -> usize
+    ensures { result ≡ row_len width }
+{
+    (usize::from(width) + 7) / 8
+}
+
+/// Clears the padding bits of a row.
+fn clear_padding(row: &mut [u8], width: u16)
+    requires { length row.old ≡ row_len width }
+    ensures { IsCleared width row.old row.new }
+{
+    let len = row.len();
+    if len > 0 {
+        let padding = (len * 8 - usize::from(width)) as u32;
+        row[len - 1] = (row[len - 1] >> padding) << padding;
+    }
+}
+
+/// Fills a row with the next bytes, which stand at this offset, and clears its padding bits.
+fn fill_row<S: Source>(
+    src: &mut S,
+    feed: &mut Feed,
+    row: &mut [u8],
+    width: u16,
+    at: u64,
+) -> Result<(), PageFault>
+    requires short { at + length row.old < 2 ^ 64 }
+    requires len { length row.old ≡ row_len width }
+    ensures ok { OnOk result ((bits : List ℕ)
+        × Took (left_of (S.left src.old) feed.old) (left_of (S.left src.new) feed.new) bits
+        × (length bits ≡ row_len width) × IsCleared width bits row.new) }
+    ensures fault { IfErr result (BytesFail (left_of (S.left src.old) feed.old)
+        (left_of (S.left src.new) feed.new) at (row_len width)) }
+    ensures drained { result ≡ Err PageFault.ReadFault → feed.new ≡ [] }
+    ensures cause { HasReadCause (S.faults src.old) (S.faults src.new) result }
+{
+    let count = fill(src, feed, row)?;
+    if count < row.len() {
+        return Err(PageFault::Truncated {
+            at: at + count as u64,
+        });
+    }
+    clear_padding(row, width);
+    Ok(())
+}
+
+/// Reads a row, which stands at this offset, and gives it to the sink.
+fn read_row<S: Source, R: RowSink>(
+    src: &mut S,
+    feed: &mut Feed,
+    row: &mut [u8],
+    width: u16,
+    at: u64,
+    rows: &mut R,
+) -> Result<(), PageFault>
+    requires short { at + length row.old < 2 ^ 64 }
+    requires len { length row.old ≡ row_len width }
+    requires width { R.width_of rows.old ≡ width }
+    requires more { 0 < R.rows_left rows.old }
+    ensures ok { OnOk result (TakesRow R.given width (left_of (S.left src.old) feed.old)
+        (left_of (S.left src.new) feed.new) rows.old rows.new) }
+    ensures width { OnOk result (R.width_of rows.new ≡ width) }
+    ensures rows { OnOk result (R.rows_left rows.new + 1 ≡ R.rows_left rows.old) }
+    ensures fault { IfErr result (BytesFail (left_of (S.left src.old) feed.old)
+        (left_of (S.left src.new) feed.new) at (row_len width)) }
+    ensures stays { OnErr result (Stays R.unchanged rows.old rows.new) }
+    ensures drained { result ≡ Err PageFault.ReadFault → feed.new ≡ [] }
+    ensures cause { HasReadCause (S.faults src.old) (S.faults src.new) result }
+{
+    fill_row(src, feed, row, width, at)?;
+    rows.row(row)?;
+    Ok(())
+}
+
+/// Reads the rows of a page, gives each to the sink, and answers the offset of their end.
+pub(crate) fn read_raster<S: Source, R: RowSink>(
+    alloc: Global,
+    src: &mut S,
+    feed: &mut Feed,
+    header: Header,
+    rows: &mut R,
+) -> Result<u64, PageFault>
+    requires short { header.len < 2 ^ 32 }
+    requires width { R.width_of rows.old ≡ header.size.width }
+    requires rows { R.rows_left rows.old ≡ header.size.height }
+    ensures end { IfOk result (λ end. end ≡ header.len + header.size.height * row_len header.size.width) }
+    ensures ok { OnOk result ((raster : List ℕ)
+        × Took (left_of (S.left src.old) feed.old) (left_of (S.left src.new) feed.new) raster
+        × (length raster ≡ header.size.height * row_len header.size.width)
+        × GivenRows R.given header.size.width header.size.height raster header.size.height rows.old rows.new) }
+    ensures fault { IfErr result (BytesFail (left_of (S.left src.old) feed.old)
+        (left_of (S.left src.new) feed.new) header.len (header.size.height * row_len header.size.width)) }
+    ensures top { OnErr result (GivenTopRows R.given R.unchanged header.size.width header.size.height
+        (left_of (S.left src.old) feed.old) rows.old rows.new) }
+    ensures drained { result ≡ Err PageFault.ReadFault → feed.new ≡ [] }
+    ensures cause { HasReadCause (S.faults src.old) (S.faults src.new) result }
+{
+    let len = row_len(header.size.width);
+    let mut row = vec![in alloc; 0; len]?;
+    let mut at = header.len;
+    for _y in 0..header.size.height {
+        read_row(src, feed, &mut row, header.size.width, at, rows)?;
+        at += len as u64;
+    }
+    Ok(at)
+}
