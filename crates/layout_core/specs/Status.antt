@@ -1,27 +1,46 @@
--- The status of a run, and why it comes.
-use Rattle.std.specs.Prelude.{◌≡◌, ◌⊎◌, ℕ, List, Option}
+-- How a run ends: its refusals, their statuses, and why each comes.
+use Rattle.std.specs.Prelude.{◌≡◌, ◌<◌, ◌⊎◌, ℕ, List, [], length, take, Option, IfSome}
+use Rattle.std.specs.Io.KnownBytes.{append_known}
+use Rattle.layout_outside.specs.Causes.{Rose}
 use Rattle.pbm_reader.specs.declared.fault.PageFault.{PageFault}
 use Rattle.pbm_reader.specs.declared.fault.PageFault.TheVariants as faults
 use Rattle.pbm_reader.specs.Fault.{HasFault, DecidesNothing}
 use Rattle.pbm_reader.specs.Left.{Took}
+use Rattle.layout_core.specs.Line.{fault_line}
+use Rattle.layout_core.specs.declared.refusal.Refusal.{Refusal}
+use Rattle.layout_core.specs.declared.refusal.Refusal.TheVariants as refusals
+
+-- the words of a command line that asks for something that can be done: none at all
+abbrev pub HasPlan : {Word : Type 0} → List Word → Type 0
+HasPlan words = words ≡ []
 
 -- the status of a page that was not read
-abbrev pub status_of : PageFault → ℕ
-status_of faults.ReadFault = 5
-status_of faults.Memory = 7
-status_of fault = 3
+abbrev pub fault_status : PageFault → ℕ
+fault_status faults.ReadFault = 5
+fault_status faults.Memory = 7
+fault_status fault = 3
 
--- done, bad page, read fault, write fault, memory
+-- the status of a run that ended without a document
+abbrev pub status_of : Refusal → ℕ
+status_of refusals.Usage = 2
+status_of (refusals.Page fault) = fault_status fault
+status_of refusals.WriteFault = 6
+status_of refusals.Memory = 7
+
+-- done, usage, bad page, read fault, write fault, memory
 abbrev pub IsStatus : ℕ → Type 0
-IsStatus status = (status ≡ 0) ⊎ (status ≡ 3) ⊎ (status ≡ 5) ⊎ (status ≡ 6) ⊎ (status ≡ 7)
+IsStatus status = (status ≡ 0) ⊎ (status ≡ 2) ⊎ (status ≡ 3) ⊎ (status ≡ 5) ⊎ (status ≡ 6) ⊎ (status ≡ 7)
 
--- the statuses of runs that wrote nothing
-abbrev pub IsUnwritten : ℕ → Type 0
-IsUnwritten status = (status ≡ 3) ⊎ (status ≡ 5) ⊎ (status ≡ 7)
+-- the line was written whole, or a front of it where the count of faults rose
+abbrev pub WritesLine : Option (List ℕ) → Option (List ℕ) → ℕ → ℕ → List ℕ → Type 0
+WritesLine old new before now line = (new ≡ append_known old line) ⊎ (Rose before now × (count : ℕ) × (count < length line) × (new ≡ append_known old (take count line)))
 
--- the input has a fault
-abbrev pub IsBadPage : List ℕ → Type 0
-IsBadPage input = (fault : PageFault) × HasFault input fault
+-- the input has a fault, and the line that names it was written
+pub record RefusesPage (left err_old err_new : Option (List ℕ)) (before now : ℕ) : Type 0 where
+  pub fault : PageFault
+  pub status : fault_status fault ≡ 3
+  pub has : IfSome left (λ input. HasFault input fault)
+  pub line : WritesLine err_old err_new before now (fault_line fault)
 
 -- what was taken of the input decides no fault of it
 abbrev pub IsUndecided : Option (List ℕ) → Option (List ℕ) → Type 0

@@ -1,11 +1,17 @@
 //! The whole run on one thread.
-ghost use Rattle.std.specs.Prelude.{◌≡◌, IfSome, IfOk, IfErr};
+ghost use Rattle.std.specs.Prelude.{◌≡◌, ◌≢◌, ◌<◌, ◌⊎◌, ◌↔◌, ℕ, List, length, Some, IfSome, IfOk, IfErr, IsOkUnless};
 ghost use Rattle.layout_outside.specs.Causes.{Rose};
-ghost use Rattle.pbm_reader.specs.Reading.{HasReadCause, Refuses};
+ghost use Rattle.pbm_reader.specs.declared.fault.PageFault.{PageFault};
+ghost use Rattle.pbm_reader.specs.Spelling.{IsPage};
+ghost use Rattle.pbm_reader.specs.Fault.{HasFault};
+ghost use Rattle.pbm_reader.specs.Reading.{AnswersFault, HasReadCause, Refuses};
 ghost use Rattle.layout_core.specs.Run.{ReadsLayout, WritesDocument, FrontOfDocument};
-ghost use Rattle.layout_core.specs.Status.{status_of, IsStatus, IsUnwritten, IsBadPage, IsUndecided};
+ghost use Rattle.layout_core.specs.Line.{line_of, fault_line};
+ghost use Rattle.layout_core.specs.Status.{HasPlan, IsStatus, WritesLine, RefusesPage, IsUndecided};
+ghost use Rattle.layout_core.specs.declared.refusal.Refusal.{Refusal};
 
 use crate::black::BlackCount;
+use crate::refusal::{Refusal, refuse};
 use hocr_writer::{Layout, hocr_text};
 use layout_outside::{Sink, Source, put_all};
 use pbm_reader::{PageFault, read_page};
@@ -16,6 +22,10 @@ fn read_layout<S: Source>(alloc: Global, src: &mut S) -> Result<Layout, PageFaul
     ensures layout { IfOk result (ReadsLayout (S.left src.old) (S.left src.new)) }
     ensures fault { IfErr result (Refuses (S.left src.old) (S.left src.new)) }
     ensures cause { HasReadCause (S.faults src.old) (S.faults src.new) result }
+    ensures complete { (input : List ℕ) → S.left src.old ≡ Some input → IsPage input
+        → ¬ Rose (S.faults src.old) (S.faults src.new) → IsOkUnless result PageFault.Memory }
+    ensures faulty { (input : List ℕ) (fault : PageFault) → S.left src.old ≡ Some input → HasFault input fault
+        → ¬ Rose (S.faults src.old) (S.faults src.new) → AnswersFault fault result }
 {
     let mut count = BlackCount::new();
     let size = read_page(alloc, src, &mut count)?;
@@ -27,52 +37,70 @@ fn read_layout<S: Source>(alloc: Global, src: &mut S) -> Result<Layout, PageFaul
     })
 }
 
-/// The status of a page that was not read.
-fn fault_status(fault: PageFault) -> u8
-    ensures { result ≡ status_of fault }
-{
-    match fault {
-        PageFault::Magic { .. }
-        | PageFault::Header { .. }
-        | PageFault::Truncated { .. }
-        | PageFault::Trailing { .. } => 3,
-        PageFault::ReadFault => 5,
-        PageFault::Memory => 7,
-    }
-}
-
-/// Reads a page from the source, writes its document to `out`, and answers the status: 0 done,
-/// 3 bad page, 5 a read failed, 6 a write failed, 7 out of memory.
+/// Reads a page from the source, writes its document to `out`, and answers the status of the run:
 ///
-/// The words of the command line are not looked at yet, and nothing is written to `err`.
+/// - 0: the input was read to its end, and the page's document was written whole;
+/// - 2: there is a word, and no word is understood yet; nothing was read;
+/// - 3: the input spells no page in the narrow form of Netpbm's raw PBM;
+/// - 5: a read failed before the bytes that were taken decided a fault of the input;
+/// - 6: a write to `out` failed, and a proper front of the document was written;
+/// - 7: memory was refused.
+///
+/// On 2, 3, 5 and 7 nothing was written to `out`. On 2 to 7 one line that says why was written to
+/// `err`, or a front of it where a write to `err` failed; this takes no memory.
 pub fn layout_alone<S: Source, K: Sink, E: Sink>(
     alloc: Global,
-    _words: &[String],
+    words: &[String],
     src: &mut S,
     out: &mut K,
-    _err: &mut E,
+    err: &mut E,
 ) -> u8
+    ensures statuses { IsStatus result }
     // The input was read to its end, it spells a page, and just the page's document was written.
     ensures done { result ≡ 0 → WritesDocument (S.left src.old) (S.left src.new) (K.written out.old) (K.written out.new) }
-    ensures bad_page { result ≡ 3 → IfSome (S.left src.old) IsBadPage }
-    ensures read_fault { result ≡ 5 → Rose (S.faults src.old) (S.faults src.new) }
-    ensures undecided { result ≡ 5 → IsUndecided (S.left src.old) (S.left src.new) }
-    ensures write_fault { result ≡ 6 → Rose (K.faults out.old) (K.faults out.new) }
+    ensures silent { result ≡ 0 → err.new ≡ err.old }
+
+    // 2 comes exactly where the words have no plan, and then the source is as before.
+    ensures planless { ¬ HasPlan words.now → result ≡ 2 }
+    ensures usage { result ≡ 2 → ¬ HasPlan words.now × (src.new ≡ src.old)
+        × WritesLine (E.written err.old) (E.written err.new) (E.faults err.old) (E.faults err.new) (line_of Refusal.Usage) }
+
+    // 3 comes exactly where the input has a fault and the run reaches it, and the line names the fault.
+    ensures bad_page { result ≡ 3 → RefusesPage (S.left src.old)
+        (E.written err.old) (E.written err.new) (E.faults err.old) (E.faults err.new) }
+    ensures faulty { HasPlan words.now → (input : List ℕ) (fault : PageFault) → S.left src.old ≡ Some input → HasFault input fault
+        → ¬ Rose (S.faults src.old) (S.faults src.new) → (result ≡ 3) ⊎ (result ≡ 7) }
+
+    ensures read_fault { result ≡ 5 → Rose (S.faults src.old) (S.faults src.new)
+        × IsUndecided (S.left src.old) (S.left src.new)
+        × WritesLine (E.written err.old) (E.written err.new) (E.faults err.old) (E.faults err.new) (fault_line PageFault.ReadFault) }
+
     // A page was read, and a proper front of its document was written.
-    ensures front { result ≡ 6 → FrontOfDocument (S.left src.old) (S.left src.new) (K.written out.old) (K.written out.new) }
-    ensures unwritten { IsUnwritten result → out.new ≡ out.old }
-    ensures statuses { IsStatus result }
-    ensures silent { _err.new ≡ _err.old }
+    ensures write_fault { result ≡ 6 → Rose (K.faults out.old) (K.faults out.new)
+        × FrontOfDocument (S.left src.old) (S.left src.new) (K.written out.old) (K.written out.new)
+        × WritesLine (E.written err.old) (E.written err.new) (E.faults err.old) (E.faults err.new) (line_of Refusal.WriteFault) }
+
+    ensures memory { result ≡ 7 →
+        WritesLine (E.written err.old) (E.written err.new) (E.faults err.old) (E.faults err.new) (line_of Refusal.Memory) }
+    ensures unwritten { result ≢ 0 → result ≢ 6 → out.new ≡ out.old }
+
+    // A page that no read failed on is done, unless a write failed or memory was refused.
+    ensures complete { HasPlan words.now → (input : List ℕ) → S.left src.old ≡ Some input → IsPage input
+        → ¬ Rose (S.faults src.old) (S.faults src.new)
+        → (result ≡ 0) ⊎ ((result ≡ 6) × Rose (K.faults out.old) (K.faults out.new)) ⊎ (result ≡ 7) }
 {
+    if !words.is_empty() {
+        return refuse(err, Refusal::Usage);
+    }
     let layout = match read_layout(alloc, src) {
         Ok(layout) => layout,
-        Err(fault) => return fault_status(fault),
+        Err(fault) => return refuse(err, Refusal::Page(fault)),
     };
     let Ok(text) = hocr_text(alloc, &layout) else {
-        return 7;
+        return refuse(err, Refusal::Memory);
     };
     match put_all(out, &text) {
         Ok(()) => 0,
-        Err(_) => 6,
+        Err(_) => refuse(err, Refusal::WriteFault),
     }
 }

@@ -32,13 +32,13 @@ Reaches front at state = (rest : List ℕ) → header_at 0 Magic (front ++ rest)
 -- ---- the bytes before a state begin a header
 
 -- bytes that complete a header from a state
-record Completion (at : ℕ) (state : HeaderState) : Type 0 where
+pub record Completion (at : ℕ) (state : HeaderState) : Type 0 where
   pub bytes : List ℕ
   pub some : 0 < length bytes
   pub header : Header
   pub reads : header_at at state bytes ≡ Ok (header, [])
 
-completes : (at : ℕ) (state : HeaderState) → Completion at state
+pub completes : (at : ℕ) (state : HeaderState) → Completion at state
 unfolding header_at
 completes at Magic = record { bytes = 80 ∷ 52 ∷ 10 ∷ 49 ∷ 32 ∷ 49 ∷ 10 ∷ []; some = lit< tt; header = record { size = record { width = 1; height = 1 }; len = at + 1 + 1 + 1 + 1 + 1 + 1 + 1 }; reads = refl }
 completes at Kind = record { bytes = 52 ∷ 10 ∷ 49 ∷ 32 ∷ 49 ∷ 10 ∷ []; some = lit< tt; header = record { size = record { width = 1; height = 1 }; len = at + 1 + 1 + 1 + 1 + 1 + 1 }; reads = refl }

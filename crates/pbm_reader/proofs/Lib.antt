@@ -4,6 +4,7 @@ pub mod HeaderSteps
 pub mod HeaderLaws
 pub mod PageLaws
 pub mod FaultLaws
+pub mod OneFault
 pub mod HeaderLoop
 pub mod Pixels
 pub mod RowLoop

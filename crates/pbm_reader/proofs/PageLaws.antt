@@ -52,17 +52,17 @@ front_page bytes f =
 -- ---- no page begins another
 
 -- how a page's header is read, whatever follows the page
-page_read : (bytes more : List ℕ) (page : Page) (p : Spells bytes page)
+pub page_reads : (bytes more : List ℕ) (page : Page) (p : Spells bytes page)
     → header_at 0 Magic (bytes ++ more) ≡ Ok (record { size = record { width = page.width; height = page.height }; len = length p.header }, p.raster ++ more)
-page_read bytes more page p =
+page_reads bytes more page p =
     ap (λ (l : List ℕ). header_at 0 Magic (l ++ more)) p.whole
     ∙ ap (λ (l : List ℕ). header_at 0 Magic l) (append_assoc p.header p.raster more)
     ∙ complete p.header page.width page.height p.is_header (p.raster ++ more)
 
 pub no_longer_page : (bytes rest : List ℕ) (page longer : Page) → Spells bytes page → Spells (bytes ++ rest) longer → 0 < length rest → ⊥
 no_longer_page bytes rest page longer p q some =
-    let a = page_read bytes rest page p in
-    let b = ap (λ (l : List ℕ). header_at 0 Magic l) (sym (append-nil (bytes ++ rest))) ∙ page_read (bytes ++ rest) [] longer q in
+    let a = page_reads bytes rest page p in
+    let b = ap (λ (l : List ℕ). header_at 0 Magic l) (sym (append-nil (bytes ++ rest))) ∙ page_reads (bytes ++ rest) [] longer q in
     let x : Read = (record { size = record { width = page.width; height = page.height }; len = length p.header }, p.raster ++ rest) in
     let y : Read = (record { size = record { width = longer.width; height = longer.height }; len = length q.header }, q.raster ++ []) in
     let e : x ≡ y = same_read x y (sym a ∙ b) in
@@ -79,7 +79,7 @@ magic_p : (input : List ℕ) → HasMagic input → Begins (80 ∷ []) input
 magic_p input (inl one) = (49 ∷ one.0, one.1)
 magic_p input (inr four) = (52 ∷ four.0, four.1)
 
-no_magic_fault : (input : List ℕ) (at : ℕ) → HasMagic input → IsMagicFault input at → ⊥
+pub no_magic_fault : (input : List ℕ) (at : ℕ) → HasMagic input → IsMagicFault input at → ⊥
 no_magic_fault input at m (inl first) = first.1 (magic_p input m)
 no_magic_fault input at m (inr second) = second.2 m
 

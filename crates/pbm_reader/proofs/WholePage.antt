@@ -1,6 +1,6 @@
 -- A page is read exactly where the input spells one, and each refusal is the fault of the input.
-use Rattle.std.proofs.Common.{◌≡◌, ℕ, ◌+◌, ◌*◌, ◌<◌, List, [], ◌∷◌, ◌++◌, length, Option, Some, None, Result, Ok, Err, refl, sym, ap, subst, ◌∙◌, append_assoc, inl, inr, arith}
-use Rattle.std.specs.Prelude.{IfSome, IfErr, IsOkUnless}
+use Rattle.std.proofs.Common.{◌≡◌, ℕ, ◌+◌, ◌*◌, ◌⊎◌, ◌<◌, List, [], ◌∷◌, ◌++◌, length, Option, Some, None, Result, Ok, Err, refl, sym, ap, subst, ◌∙◌, append_assoc, inl, inr, arith}
+use Rattle.std.specs.Prelude.{IfSome, IfOk, IfErr, IsErr, IsOkUnless}
 use Rattle.std.proofs.lemmas.List.{length-append, append-nil, take_at}
 use Rattle.layout_outside.specs.Causes.{Rose}
 use Rattle.pbm_reader.specs.declared.state.HeaderState.TheVariants.{Magic}
@@ -18,6 +18,7 @@ use Rattle.pbm_reader.specs.Left.{left_of, Took, TookAll}
 use Rattle.pbm_reader.specs.Reading.{HasReadCause, ReadsPage, Refuses}
 use Rattle.pbm_reader.proofs.Taken.{took_more, took_all, prepend_nothing, of_all, of_end, all_left}
 use Rattle.pbm_reader.proofs.HeaderLaws.{sound}
+use Rattle.pbm_reader.proofs.OneFault.{one_fault}
 use Rattle.pbm_reader.proofs.PageLaws.{header_magic, spells_page, part_begins, page_has_no_fault, page_undecided}
 
 -- the header was taken, whatever follows it
@@ -194,3 +195,35 @@ only_memory old new before now (Err (faults.Magic at)) input refuses cause told 
 only_memory old new before now (Err (faults.Header at)) input refuses cause told p calm = absurd (known_fault old input p.0 (faults.Header at) told p.1 refuses)
 only_memory old new before now (Err (faults.Truncated at)) input refuses cause told p calm = absurd (known_fault old input p.0 (faults.Truncated at) told p.1 refuses)
 only_memory old new before now (Err (faults.Trailing at)) input refuses cause told p calm = absurd (known_fault old input p.0 (faults.Trailing at) told p.1 refuses)
+
+known_all : (old new : Option (List ℕ)) (input taken : List ℕ) → old ≡ Some input → TookAll old new taken → taken ≡ input
+known_all old None input taken told t = absurd (never old input told t.took)
+  where
+    never : (o : Option (List ℕ)) (l : List ℕ) → o ≡ Some l → o ≡ None → ⊥
+    never o l p q = cc
+known_all old (Some ys) input taken told t =
+    let all : taken ++ ys ≡ taken = ap (λ (l : List ℕ). taken ++ l) t.end ∙ append-nil taken in
+    some_is taken input (ap (λ (l : List ℕ). Some l) (sym all) ∙ sym t.took ∙ told)
+  where
+    some_is : (a b : List ℕ) → (let o : Option (List ℕ) = Some a in o) ≡ Some b → a ≡ b
+    some_is a b e = cc
+
+same_fault : (old : Option (List ℕ)) (input : List ℕ) (answer fault : PageFault) → old ≡ Some input → IfSome old (λ input. HasFault input answer) → HasFault input fault → answer ≡ fault
+same_fault old input answer fault told h f =
+    let P : Option (List ℕ) → Type 0 = λ k. IfSome k (λ input. HasFault input answer) in
+    one_fault input answer fault (subst P told h) f
+
+-- the fault of the input, where no read failed, is what is answered unless memory is refused
+pub only_fault : {Sink : Type 0} (begun : Sink → ℕ → ℕ → Sink → Type 0) (given : Sink → List ℕ → Sink → Type 0)
+    (old new : Option (List ℕ)) (start sink : Sink) (before now : ℕ) (result : Result Size PageFault) (input : List ℕ) (fault : PageFault)
+    → IfOk result (ReadsPage begun given old new start sink) → IfErr result (Refuses old new) → HasReadCause before now result
+    → old ≡ Some input → HasFault input fault → (Rose before now → ⊥) → IsErr result × IfErr result (λ answer. (answer ≡ fault) ⊎ (answer ≡ faults.Memory))
+only_fault begun given old new start sink before now (Ok size) input fault reads refuses cause told f calm =
+    let P : List ℕ → Type 0 = λ l. Spells l reads.page in
+    absurd (page_has_no_fault input reads.page fault (subst P (known_all old new input reads.input told reads.took) reads.spells) f)
+only_fault begun given old new start sink before now (Err faults.Memory) input fault reads refuses cause told f calm = (refl, inr refl)
+only_fault begun given old new start sink before now (Err faults.ReadFault) input fault reads refuses cause told f calm = absurd (calm (cause.failed refl))
+only_fault begun given old new start sink before now (Err (faults.Magic at)) input fault reads refuses cause told f calm = (refl, inl (same_fault old input (faults.Magic at) fault told refuses f))
+only_fault begun given old new start sink before now (Err (faults.Header at)) input fault reads refuses cause told f calm = (refl, inl (same_fault old input (faults.Header at) fault told refuses f))
+only_fault begun given old new start sink before now (Err (faults.Truncated at)) input fault reads refuses cause told f calm = (refl, inl (same_fault old input (faults.Truncated at) fault told refuses f))
+only_fault begun given old new start sink before now (Err (faults.Trailing at)) input fault reads refuses cause told f calm = (refl, inl (same_fault old input (faults.Trailing at) fault told refuses f))

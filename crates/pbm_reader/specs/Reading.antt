@@ -1,8 +1,8 @@
 -- What a reader did, and why it refused.
-use Rattle.std.specs.Prelude.{◌≡◌, ◌≤◌, ℕ, List, Option, Result, Err, IfSome, ⊤}
+use Rattle.std.specs.Prelude.{◌≡◌, ◌≤◌, ◌⊎◌, ℕ, List, Option, Result, Err, IfSome, IsErr, IfErr, ⊤}
 use Rattle.layout_outside.specs.Causes.{Rose}
 use Rattle.pbm_reader.specs.declared.fault.PageFault.{PageFault}
-use Rattle.pbm_reader.specs.declared.fault.PageFault.TheVariants.{ReadFault}
+use Rattle.pbm_reader.specs.declared.fault.PageFault.TheVariants.{ReadFault, Memory}
 use Rattle.pbm_reader.specs.declared.fault.PageFault.TheVariants as faults
 use Rattle.pbm_reader.specs.declared.fault.Size.{Size}
 use Rattle.pbm_reader.specs.Page.{Page}
@@ -32,3 +32,7 @@ abbrev pub Refuses : Option (List ℕ) → Option (List ℕ) → PageFault → T
 Refuses old new faults.ReadFault = (taken : List ℕ) × Took old new taken × DecidesNothing taken
 Refuses old new faults.Memory = ⊤
 Refuses old new fault = IfSome old (λ input. HasFault input fault)
+
+-- the answer is this fault, or want of memory
+abbrev pub AnswersFault : {T : Type 0} → PageFault → Result T PageFault → Type 0
+AnswersFault fault result = IsErr result × IfErr result (λ answer. (answer ≡ fault) ⊎ (answer ≡ Memory))

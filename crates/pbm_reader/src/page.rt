@@ -1,10 +1,12 @@
 //! A whole page, from the first byte of the input to its end.
 ghost use Rattle.std.specs.Prelude.{◌≡◌, ℕ, List, [], Some, IfOk, IfErr, OnErr, IsOkUnless};
 ghost use Rattle.layout_outside.specs.Causes.{Rose};
+ghost use Rattle.pbm_reader.specs.declared.fault.PageFault.{PageFault};
 ghost use Rattle.pbm_reader.specs.Spelling.{IsPage};
+ghost use Rattle.pbm_reader.specs.Fault.{HasFault};
 ghost use Rattle.pbm_reader.specs.Given.{AfterFault};
 ghost use Rattle.pbm_reader.specs.Left.{left_of};
-ghost use Rattle.pbm_reader.specs.Reading.{HasReadCause, ReadsPage, Refuses};
+ghost use Rattle.pbm_reader.specs.Reading.{AnswersFault, HasReadCause, ReadsPage, Refuses};
 
 use crate::fault::{PageFault, Size};
 use crate::feed::{Feed, next_byte};
@@ -34,6 +36,9 @@ pub fn read_page<S: Source, R: RowSink>(
     // Where the input spells a page and no read failed, the page is read unless memory is refused.
     ensures complete { (input : List ℕ) → S.left src.old ≡ Some input → IsPage input
         → ¬ Rose (S.faults src.old) (S.faults src.new) → IsOkUnless result PageFault.Memory }
+    // Where the input has a fault and no read failed, that fault is answered unless memory is refused.
+    ensures faulty { (input : List ℕ) (fault : PageFault) → S.left src.old ≡ Some input → HasFault input fault
+        → ¬ Rose (S.faults src.old) (S.faults src.new) → AnswersFault fault result }
 {
     let mut feed = Feed::new(alloc)?;
     read_from(alloc, src, &mut feed, rows)

@@ -1,6 +1,6 @@
 use Rattle.std.proofs.Common.{◌∙◌}
 use Rattle.pbm_reader.specs.Left.{left_of}
-use Rattle.pbm_reader.proofs.WholePage.{from_empty, only_memory}
+use Rattle.pbm_reader.proofs.WholePage.{from_empty, only_memory, only_fault}
 use Rattle.pbm_reader.proofs.page.read_page.Goals as goal
 
 pub returns-clause-complete : goal.returns-clause-complete
@@ -10,3 +10,12 @@ returns-clause-complete g c =
     λ input told page calm.
     only_memory (left_of before c.in_ok-feed.feed) (left_of after c.read_from.new.feed) (g.S.Source.faults c.args.src.now) (g.S.Source.faults c.read_from.new.src)
     c.read_from.result input c.read_from.ensures.fault c.read_from.ensures.cause (from_empty before c.in_ok-feed.feed c.in_ok-feed.ensures ∙ told) page calm
+
+pub returns-clause-faulty : goal.returns-clause-faulty
+returns-clause-faulty g c =
+    let before = g.S.Source.left c.args.src.now in
+    let after = g.S.Source.left c.read_from.new.src in
+    λ input fault told has calm.
+    only_fault g.R.RowSink.begun g.R.RowSink.given (left_of before c.in_ok-feed.feed) (left_of after c.read_from.new.feed) c.args.rows.now c.read_from.new.rows
+    (g.S.Source.faults c.args.src.now) (g.S.Source.faults c.read_from.new.src)
+    c.read_from.result input fault c.read_from.ensures.page c.read_from.ensures.fault c.read_from.ensures.cause (from_empty before c.in_ok-feed.feed c.in_ok-feed.ensures ∙ told) has calm

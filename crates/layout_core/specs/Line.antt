@@ -1,0 +1,26 @@
+-- The lines that a run writes to `err` when it ends without a document.
+use Rattle.std.specs.Prelude.{ℕ, List, ◌++◌, codes, decimal}
+use Rattle.pbm_reader.specs.declared.fault.PageFault.{PageFault}
+use Rattle.pbm_reader.specs.declared.fault.PageFault.TheVariants as faults
+use Rattle.layout_core.specs.declared.refusal.Refusal.{Refusal}
+use Rattle.layout_core.specs.declared.refusal.Refusal.TheVariants as refusals
+
+-- what is wrong with a page, and at which byte
+abbrev pub place_line : List ℕ → ℕ → List ℕ
+place_line what at = codes "bad page: " ++ what ++ codes " at " ++ decimal at ++ codes "\n"
+
+-- the line of a page that was not read
+abbrev pub fault_line : PageFault → List ℕ
+fault_line (faults.Magic at) = place_line (codes "magic") at
+fault_line (faults.Header at) = place_line (codes "header") at
+fault_line (faults.Truncated at) = place_line (codes "truncated") at
+fault_line (faults.Trailing at) = place_line (codes "trailing") at
+fault_line faults.ReadFault = codes "read failed\n"
+fault_line faults.Memory = codes "out of memory\n"
+
+-- the line of a run that ended without a document
+unfoldable pub line_of : Refusal → List ℕ
+line_of refusals.Usage = codes "usage: layout1\n"
+line_of (refusals.Page fault) = fault_line fault
+line_of refusals.WriteFault = codes "write failed\n"
+line_of refusals.Memory = codes "out of memory\n"

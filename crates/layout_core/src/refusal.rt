@@ -1,0 +1,115 @@
+//! How a run ends without a document: its status, and its line on `err`.
+ghost use Rattle.std.specs.Prelude.{◌≡◌, ◌++◌, ◌≤◌, length, codes, decimal};
+ghost use Rattle.layout_core.specs.Line.{place_line, fault_line, line_of};
+ghost use Rattle.layout_core.specs.Status.{fault_status, status_of, WritesLine};
+
+use arrayvec::ArrayString;
+use itoa::Buffer;
+use layout_outside::{Sink, put_all};
+use pbm_reader::PageFault;
+
+/// A line that takes no memory: the longest has 43 bytes.
+pub type Line = ArrayString<64>;
+
+/// Why a run ended without a document.
+#[derive(Debug, Clone, Copy, PartialEq, Eq, Drop)]
+pub enum Refusal {
+    /// The words of the command line ask for nothing that can be done.
+    Usage,
+    /// No page was read.
+    Page(PageFault),
+    /// A write to `out` failed.
+    WriteFault,
+    /// Memory was refused.
+    Memory,
+}
+
+impl Refusal {
+    /// The status of the run.
+    pub fn status(&self) -> u8
+        ensures { result ≡ status_of self.now }
+    {
+        match self {
+            Refusal::Usage => 2,
+            Refusal::Page(fault) => status_of_fault(fault),
+            Refusal::WriteFault => 6,
+            Refusal::Memory => 7,
+        }
+    }
+
+    /// The line that says why, with a line feed at its end.
+    #[tactic(auto, unfolding(crate::specs::Line::line_of))]
+    pub fn line(&self) -> Line
+        ensures { result.bytes ≡ line_of self.now }
+    {
+        match self {
+            Refusal::Usage => line_from("usage: layout1\n"),
+            Refusal::Page(fault) => line_of_fault(fault),
+            Refusal::WriteFault => line_from("write failed\n"),
+            Refusal::Memory => line_from("out of memory\n"),
+        }
+    }
+}
+
+/// Writes the refusal's line, and answers its status. A fault of the sink changes no status.
+pub fn refuse<E: Sink>(err: &mut E, refusal: Refusal) -> u8
+    ensures status { result ≡ status_of refusal }
+    ensures line { WritesLine (E.written err.old) (E.written err.new) (E.faults err.old) (E.faults err.new) (line_of refusal) }
+{
+    let line = refusal.line();
+    let _ = put_all(err, line.as_str().as_bytes());
+    refusal.status()
+}
+
+/// The status of a page that was not read.
+fn status_of_fault(fault: &PageFault) -> u8
+    ensures { result ≡ fault_status fault.now }
+{
+    match fault {
+        PageFault::Magic { .. }
+        | PageFault::Header { .. }
+        | PageFault::Truncated { .. }
+        | PageFault::Trailing { .. } => 3,
+        PageFault::ReadFault => 5,
+        PageFault::Memory => 7,
+    }
+}
+
+/// The line of a page that was not read.
+fn line_of_fault(fault: &PageFault) -> Line
+    ensures { result.bytes ≡ fault_line fault.now }
+{
+    match fault {
+        PageFault::Magic { at } => line_of_place("magic", *at),
+        PageFault::Header { at } => line_of_place("header", *at),
+        PageFault::Truncated { at } => line_of_place("truncated", *at),
+        PageFault::Trailing { at } => line_of_place("trailing", *at),
+        PageFault::ReadFault => line_from("read failed\n"),
+        PageFault::Memory => line_from("out of memory\n"),
+    }
+}
+
+/// A line that is always the same.
+fn line_from(text: &str) -> Line
+    requires { length text.now ≤ 64 }
+    ensures { result.bytes ≡ text.now }
+{
+    let mut line = Line::new();
+    line.push_str(text);
+    line
+}
+
+/// The line that says what is wrong with a page, and at which byte.
+fn line_of_place(what: &str, at: u64) -> Line
+    requires { length what.now ≤ 9 }
+    ensures { result.bytes ≡ place_line what.now at }
+{
+    let mut buffer = Buffer::new();
+    let mut line = Line::new();
+    line.push_str("bad page: ");
+    line.push_str(what);
+    line.push_str(" at ");
+    line.push_str(buffer.format(at));
+    line.push_str("\n");
+    line
+}

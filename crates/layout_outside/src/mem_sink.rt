@@ -1,0 +1,117 @@
+//! A sink over memory, with room made before, which fails at the calls that it is told to fail at.
+ghost use Rattle.std.specs.Prelude.{◌≡◌, ℕ, ◌+◌, ◌-◌, ◌<◌, ◌≤◌, ◌↔◌, ◌⊎◌, List, [], ◌++◌, length, take, min, Some, IsOk, IfOk, OnOk, IsErr, OnErr, Contains, vec_len, vec_capacity};
+ghost use Rattle.layout_outside.specs.Causes.{HasCause, next_count};
+
+use crate::device::{Failed, Sink};
+use std::alloc::{AllocError as OutOfMemory, Global};
+
+/// Keeps what is written, within room that was made before.
+///
+/// Its calls are numbered from 0. Each count stands still at the last value of its type.
+#[derive(Debug, Drop)]
+pub struct MemSink {
+    /// What was written.
+    pub bytes: Vec<u8>,
+    /// The most bytes that it keeps.
+    pub room: usize,
+    /// The most bytes that one call takes, at least 1.
+    pub piece: usize,
+    /// How many calls there were.
+    pub calls: u64,
+    /// The numbers of the calls that fail.
+    pub fails: Vec<u64>,
+    /// How many calls failed, for want of room too.
+    pub faults: u64,
+    ghost within: { vec_len bytes ≤ room },
+    ghost made: { room ≤ vec_capacity bytes },
+    ghost takes_some: { 0 < piece },
+}
+
+impl MemSink {
+    /// An empty sink with room for this many bytes. It fails only for want of memory.
+    pub fn with_room(
+        alloc: Global,
+        room: usize,
+        piece: usize,
+        fails: Vec<u64>,
+    ) -> Result<MemSink, OutOfMemory>
+        requires { 0 < piece }
+        ensures written { IfOk result (λ sink. ⟦<MemSink as Sink>⟧.written sink ≡ Some []) }
+        ensures given { IfOk result (λ sink.
+            (sink.room ≡ room) × (sink.piece ≡ piece) × (sink.fails ≡ fails)) }
+        ensures unused { IfOk result (λ sink. (sink.calls ≡ 0) × (sink.faults ≡ 0)) }
+        ensures capacity { IfOk result (λ sink. vec_capacity sink.bytes ≡ room) }
+        ensures no_room { room ≡ 0 → IsOk result }
+    {
+        let bytes = Vec::with_capacity(alloc, room)?;
+        Ok(MemSink {
+            bytes,
+            room,
+            piece,
+            calls: 0,
+            fails,
+            faults: 0,
+        })
+    }
+
+    /// What was written.
+    pub fn as_slice(&self) -> &[u8]
+        ensures { ⟦<MemSink as Sink>⟧.written self.now ≡ Some result.now }
+    {
+        self.bytes.as_slice()
+    }
+}
+
+impl Sink for MemSink {
+    ghost written = { λ s. Some s.bytes.items };
+
+    ghost faults = { λ s. s.faults };
+
+    /// Takes as many bytes as the piece, the room left and the text offered allow.
+    fn write(&mut self, piece: &[u8]) -> Result<usize, Failed>
+        requires { 0 < length piece.now }
+        ensures some { IfOk result (λ count. 0 < count) }
+        ensures bound { IfOk result (λ count. count ≤ length piece.now) }
+        ensures bytes { IfOk result (λ count.
+            self.new.bytes.items ≡ self.old.bytes.items ++ take count piece.now) }
+        ensures err { OnErr result (self.new.bytes.items ≡ self.old.bytes.items) }
+        ensures cause { HasCause self.old.faults self.new.faults result }
+
+        // It fails at the calls that it is told and where no room is left, and at no other.
+        ensures fails { IsErr result ↔ (Contains self.old.fails.items self.old.calls
+            ⊎ (self.old.room ≡ vec_len self.old.bytes)) }
+        ensures count { IfOk result (λ count. count
+            ≡ min (min (self.old.room - vec_len self.old.bytes) self.old.piece) (length piece.now)) }
+
+        ensures called { self.new.calls ≡ next_count self.old.calls }
+        ensures counted { OnErr result (self.new.faults ≡ next_count self.old.faults) }
+        ensures uncounted { OnOk result (self.new.faults ≡ self.old.faults) }
+        ensures given { (self.new.room ≡ self.old.room)
+            × (self.new.piece ≡ self.old.piece) × (self.new.fails.items ≡ self.old.fails.items) }
+
+        // It takes no memory.
+        ensures capacity { vec_capacity self.new.bytes ≡ vec_capacity self.old.bytes }
+    {
+        let call = self.calls;
+        self.calls = self.calls.saturating_add(1);
+        let room = self.room - self.bytes.len();
+        if room == 0 || self.fails.contains(&call) {
+            self.faults = self.faults.saturating_add(1);
+            return Err(Failed);
+        }
+        let count = room.min(self.piece).min(piece.len());
+        push_all(&mut self.bytes, &piece[..count]);
+        Ok(count)
+    }
+}
+
+// Appends the piece to bytes that have capacity for it, where `extend_from_slice` may take memory.
+fn push_all(bytes: &mut Vec<u8>, piece: &[u8])
+    requires { vec_len bytes.old + length piece.now ≤ vec_capacity bytes.old }
+    ensures items { bytes.new.items ≡ bytes.old.items ++ piece.now }
+    ensures capacity { vec_capacity bytes.new ≡ vec_capacity bytes.old }
+{
+    for byte in piece {
+        bytes.push_reserved(*byte);
+    }
+}

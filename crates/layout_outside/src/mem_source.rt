@@ -1,0 +1,94 @@
+//! A source over memory, which fails at the calls that it is told to fail at.
+ghost use Rattle.std.specs.Prelude.{◌≡◌, ℕ, ◌+◌, ◌-◌, ◌<◌, ◌≤◌, ◌↔◌, [], ◌++◌, length, take, drop, min, Some, IfOk, OnOk, IsErr, OnErr, Contains, vec_len};
+ghost use Rattle.layout_outside.specs.Causes.{HasCause, next_count};
+
+use crate::device::{Failed, Source};
+
+/// Hands out bytes of memory in order, and fails at the calls that it is told.
+///
+/// Its calls are numbered from 0. Each count stands still at the last value of its type.
+#[derive(Debug, Drop)]
+pub struct MemSource {
+    /// All bytes, those that were handed out too.
+    pub bytes: Vec<u8>,
+    /// How many of them were handed out.
+    pub at: usize,
+    /// The most bytes that one call hands out, at least 1.
+    pub piece: usize,
+    /// How many calls there were.
+    pub calls: u64,
+    /// The numbers of the calls that fail.
+    pub fails: Vec<u64>,
+    /// How many calls failed.
+    pub faults: u64,
+    ghost within: { at ≤ vec_len bytes },
+    ghost takes_some: { 0 < piece },
+}
+
+impl MemSource {
+    /// A source of these bytes, of which none was handed out yet.
+    pub fn new(bytes: Vec<u8>, piece: usize, fails: Vec<u64>) -> MemSource
+        requires { 0 < piece }
+        ensures left { ⟦<MemSource as Source>⟧.left result ≡ Some bytes.items }
+        ensures given { (result.bytes ≡ bytes) × (result.piece ≡ piece) × (result.fails ≡ fails) }
+        ensures unused { (result.at ≡ 0) × (result.calls ≡ 0) × (result.faults ≡ 0) }
+    {
+        MemSource {
+            bytes,
+            at: 0,
+            piece,
+            calls: 0,
+            fails,
+            faults: 0,
+        }
+    }
+}
+
+impl Source for MemSource {
+    ghost use Rattle.layout_outside.specs.MemSource.{bytes_left};
+
+    ghost left = { λ s. Some (bytes_left s) };
+
+    ghost faults = { λ s. s.faults };
+
+    /// Hands out as many bytes as the piece, what is left and the buffer allow.
+    fn read(&mut self, buf: &mut [u8]) -> Result<usize, Failed>
+        requires { 0 < length buf.old }
+        ensures bound { IfOk result (λ count. count ≤ length buf.new) }
+        ensures bytes { IfOk result (λ count.
+            bytes_left self.old ≡ take count buf.new ++ bytes_left self.new) }
+        ensures end { IfOk result (λ count. count ≡ 0 → bytes_left self.new ≡ []) }
+        ensures err { OnErr result (bytes_left self.new ≡ bytes_left self.old) }
+        ensures cause { HasCause self.old.faults self.new.faults result }
+
+        // It fails at the calls that it is told, and at no other.
+        ensures fails { IsErr result ↔ Contains self.old.fails.items self.old.calls }
+        ensures count { IfOk result (λ count. count
+            ≡ min (min (vec_len self.old.bytes - self.old.at) self.old.piece) (length buf.new)) }
+
+        ensures moves { IfOk result (λ count. self.new.at ≡ self.old.at + count) }
+        ensures stands { OnErr result (self.new.at ≡ self.old.at) }
+        ensures called { self.new.calls ≡ next_count self.old.calls }
+        ensures counted { OnErr result (self.new.faults ≡ next_count self.old.faults) }
+        ensures uncounted { OnOk result (self.new.faults ≡ self.old.faults) }
+        ensures given { (self.new.bytes.items ≡ self.old.bytes.items)
+            × (self.new.piece ≡ self.old.piece) × (self.new.fails.items ≡ self.old.fails.items) }
+
+        // The buffer changes only where bytes were put.
+        ensures rest { IfOk result (λ count. drop count buf.new ≡ drop count buf.old) }
+        ensures untouched { OnErr result (buf.new ≡ buf.old) }
+    {
+        let call = self.calls;
+        self.calls = self.calls.saturating_add(1);
+        if self.fails.contains(&call) {
+            self.faults = self.faults.saturating_add(1);
+            return Err(Failed);
+        }
+        let left = self.bytes.len() - self.at;
+        let count = left.min(self.piece).min(buf.len());
+        let end = self.at + count;
+        buf[..count].copy_from_slice(&self.bytes[self.at..end]);
+        self.at = end;
+        Ok(count)
+    }
+}
