@@ -9,3 +9,4 @@ pub mod HeaderLoop
 pub mod Pixels
 pub mod RowLoop
 pub mod WholePage
+pub mod Judged

@@ -1,5 +1,5 @@
 -- An input has at most one fault, since each fault says how the header is read and what is left behind it.
-use Rattle.std.proofs.Common.{◌≡◌, ◌≢◌, ℕ, suc, ◌+◌, ◌-◌, ◌*◌, ◌<◌, ◌≤◌, ◌⊎◌, Bool, true, false, cond, eqb, List, [], ◌∷◌, ◌++◌, length, get_or, take, drop, Option, Some, None, Result, Ok, Err, refl, sym, ap, subst, ◌∙◌, append_assoc, inl, inr, arith}
+use Rattle.std.proofs.Common.{◌≡◌, ℕ, suc, ◌+◌, ◌*◌, ◌<◌, ◌≤◌, ◌⊎◌, Bool, true, false, cond, eqb, List, [], ◌∷◌, ◌++◌, length, get_or, take, drop, Option, Some, None, Result, Ok, Err, refl, sym, ap, subst, ◌∙◌, append_assoc, inl, inr, arith}
 use Rattle.std.proofs.Math.Seq.{drop-cons, take-suc}
 use Rattle.std.proofs.lemmas.Bool.Decides.{nat_tests}
 use Rattle.std.proofs.lemmas.Bool.{cases_lt}
@@ -9,12 +9,11 @@ use Rattle.pbm_reader.specs.declared.state.HeaderState.TheVariants.{Magic, Kind,
 use Rattle.pbm_reader.specs.declared.state.Progress.{Progress}
 use Rattle.pbm_reader.specs.declared.state.Progress.TheVariants.{Going, Whole}
 use Rattle.pbm_reader.specs.declared.header.Header.{Header}
-use Rattle.pbm_reader.specs.declared.fault.Size.{Size}
 use Rattle.pbm_reader.specs.declared.fault.PageFault.{PageFault}
 use Rattle.pbm_reader.specs.declared.fault.PageFault.TheVariants as faults
-use Rattle.pbm_reader.specs.Page.{Page, row_len}
-use Rattle.pbm_reader.specs.Spelling.{IsHeader, Spells, IsPage}
-use Rattle.pbm_reader.specs.Fault.{Begins, HasMagic, IsFrontOfHeader, IsFrontOfPage, IsMagicFault, IsHeaderFault, IsTruncated, IsTrailing, HasFault}
+use Rattle.pbm_reader.specs.Page.{row_len}
+use Rattle.pbm_reader.specs.Spelling.{IsHeader}
+use Rattle.pbm_reader.specs.Fault.{HasMagic, IsFrontOfHeader, IsMagicFault, IsHeaderFault, IsTruncated, IsTrailing, HasFault}
 use Rattle.pbm_reader.specs.Header.{next_state, wrong_byte, missing_byte, header_at, resume}
 use Rattle.pbm_reader.proofs.HeaderLaws.{step, complete, sound}
 use Rattle.pbm_reader.proofs.PageLaws.{no_magic_fault, page_reads}
@@ -208,11 +207,13 @@ shows_header input at f =
 
 shows_truncated : (input : List ℕ) (at : ℕ) → IsTruncated input at → (at ≡ length input) × ((header_at 0 Magic input ≡ Err (faults.Truncated at)) ⊎ IsShort input at)
 unfolding header_at
-shows_truncated input at f =
-    (f.end, elim (cases_lt (length input) (length f.front.spells.header)) [
-      | inl before ↦ inl (in_header before)
-      | inr behind ↦ inr (in_raster behind)
-    ])
+shows_truncated input at f = (
+  f.end,
+  elim (cases_lt (length input) (length f.front.spells.header)) [
+    | inl before ↦ inl (in_header before)
+    | inr behind ↦ inr (in_raster behind)
+  ],
+)
   where
     in_header : length input < length f.front.spells.header → header_at 0 Magic input ≡ Err (faults.Truncated at)
     in_header lt =

@@ -40,7 +40,7 @@ is_taken header taken reads =
 
 -- ---- refusals
 
-truncated : (header part : List ℕ) (width height at : ℕ) → IsHeader header width height → length part < height * row_len width → at ≡ length header + length part
+pub truncated : (header part : List ℕ) (width height at : ℕ) → IsHeader header width height → length part < height * row_len width → at ≡ length header + length part
     → IsTruncated (header ++ part) at
 truncated header part width height at h lt is =
     let b = part_begins header part width height h (omega arith) in

@@ -5,11 +5,15 @@
 mod fault;
 mod feed;
 mod header;
+mod law;
 mod page;
 mod raster;
 mod row_sink;
 mod state;
+#[cfg(test)]
+mod tests;
 
 pub use fault::{PageFault, Size};
+pub use law::each_input_is_judged;
 pub use page::read_page;
 pub use row_sink::{OutOfMemory, RowSink};

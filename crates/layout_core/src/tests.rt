@@ -1,0 +1,199 @@
+//! Runs over memory: the worked pages and faults, and devices that fail at each of their calls.
+use crate::layout_alone;
+use layout_outside::{MemSink, MemSource};
+use std::alloc::Global;
+use std::test::Fail;
+
+// How a run ended, and what it wrote.
+#[derive(Drop)]
+struct Outcome {
+    status: u8,
+    out: MemSink,
+    err: MemSink,
+    reads: u64,
+}
+
+// A run over devices that move at most a piece in a call, and fail at the calls with these numbers.
+fn run(
+    alloc: Global,
+    words: &[String],
+    input: &[u8],
+    piece: usize,
+    read_fails: &[u64],
+    write_fails: &[u64],
+) -> Result<Outcome, Fail>
+    requires { 0 < piece }
+{
+    let mut src = MemSource::new(input.to_vec(alloc)?, piece, read_fails.to_vec(alloc)?);
+    let mut out = MemSink::with_room(alloc, 4096, piece, write_fails.to_vec(alloc)?)?;
+    let mut err = MemSink::with_room(alloc, 64, piece, Vec::new(alloc))?;
+    let status = layout_alone(alloc, words, &mut src, &mut out, &mut err);
+    let reads = src.calls;
+    Ok(Outcome {
+        status,
+        out,
+        err,
+        reads,
+    })
+}
+
+const CORNER_BLOCK: &[u8] =
+    b"P4\n16 16\n\xe0\0\xe0\0\xe0\0\0\0\0\0\0\0\0\0\0\0\0\0\0\0\0\0\0\0\0\0\0\0\0\0\0\0";
+
+const CORNER_BLOCK_DOCUMENT: &[u8] = b"\
+<!DOCTYPE html>\n\
+<html>\n\
+<head>\n\
+<title>layout</title>\n\
+<meta charset='utf-8'>\n\
+<meta name='ocr-system' content='layout'>\n\
+<meta name='ocr-capabilities' content='ocr_page ocr_carea ocr_line ocr_separator'>\n\
+<meta name='layout-order' content='0 topological'>\n\
+</head>\n\
+<body>\n\
+<div class='ocr_page' id='page_0' title='bbox 0 0 16 16; ppageno 0; x_black 9'>\n\
+</div>\n\
+</body>\n\
+</html>\n\
+";
+
+const PADDING_BITS_DOCUMENT: &[u8] = b"\
+<!DOCTYPE html>\n\
+<html>\n\
+<head>\n\
+<title>layout</title>\n\
+<meta charset='utf-8'>\n\
+<meta name='ocr-system' content='layout'>\n\
+<meta name='ocr-capabilities' content='ocr_page ocr_carea ocr_line ocr_separator'>\n\
+<meta name='layout-order' content='0 topological'>\n\
+</head>\n\
+<body>\n\
+<div class='ocr_page' id='page_0' title='bbox 0 0 9 2; ppageno 0; x_black 0'>\n\
+</div>\n\
+</body>\n\
+</html>\n\
+";
+
+#[test]
+fn pages_give_their_documents_in_any_pieces(rt: HostRuntime) -> Result<(), Fail> {
+    let pages = [
+        (CORNER_BLOCK, CORNER_BLOCK_DOCUMENT),
+        (b"P4\n9 2\n\x00\x7f\x00\x7f", PADDING_BITS_DOCUMENT),
+        (b"P4\n9 2\n\0\0\0\0", PADDING_BITS_DOCUMENT),
+    ];
+    for piece in [1, 16, 4096] {
+        for (input, document) in pages {
+            let outcome = run(rt.alloc(), &[], input, piece, &[], &[])?;
+            assert_eq!(rt; outcome.status, 0, "piece {piece}");
+            assert_eq!(rt; outcome.out.as_slice(), document, "piece {piece}");
+            assert_eq!(rt; outcome.err.calls, 0, "piece {piece}");
+        }
+    }
+    Ok(())
+}
+
+#[test]
+fn faults_of_the_input_have_their_places(rt: HostRuntime) -> Result<(), Fail> {
+    let faults: [(&[u8], &[u8]); 13] = [
+        (b"", b"bad page: magic at 0\n"),
+        (b"Q4", b"bad page: magic at 0\n"),
+        (b"P", b"bad page: magic at 1\n"),
+        (b"P5", b"bad page: magic at 1\n"),
+        (b"P1\n1 1\n0\n", b"bad page: header at 1\n"),
+        (b"P4", b"bad page: truncated at 2\n"),
+        (b"P4 16 16\n", b"bad page: header at 2\n"),
+        (b"P4\n0", b"bad page: header at 3\n"),
+        (b"P4\n4097 1\n", b"bad page: header at 6\n"),
+        (b"P4\n16", b"bad page: truncated at 5\n"),
+        (b"P4\n16 2\n\0\0\0", b"bad page: truncated at 11\n"),
+        (b"P4\n8 1\n\0\0", b"bad page: trailing at 8\n"),
+        (b"P4\n8 1\n\0\n", b"bad page: trailing at 8\n"),
+    ];
+    for piece in [1, 16] {
+        for (input, line) in faults {
+            let outcome = run(rt.alloc(), &[], input, piece, &[], &[])?;
+            assert_eq!(rt; outcome.status, 3, "{input:?}");
+            assert_eq!(rt; outcome.err.as_slice(), line, "{input:?}");
+            assert_eq!(rt; outcome.out.calls, 0, "{input:?}");
+        }
+    }
+    Ok(())
+}
+
+#[test]
+fn no_read_is_made_once_a_fault_is_decided(rt: HostRuntime) -> Result<(), Fail> {
+    let cases: [(&[u8], u64); 4] = [
+        (b"Q4\n8 1\n\0", 1),
+        (b"P4\n0 1\n\0", 4),
+        (b"P4\n8 1\n\0\0\0\0", 9),
+        (b"P4\n8 1\n\0", 9),
+    ];
+    for (input, reads) in cases {
+        let outcome = run(rt.alloc(), &[], input, 1, &[], &[])?;
+        assert_eq!(rt; outcome.reads, reads, "{input:?}");
+    }
+    Ok(())
+}
+
+#[test]
+fn any_word_is_refused_and_nothing_is_read(rt: HostRuntime) -> Result<(), Fail> {
+    for word in ["", "--help", "--", "page.pbm", "-"] {
+        let words = [String::from_str(rt.alloc(), word)?];
+        let outcome = run(rt.alloc(), &words, CORNER_BLOCK, 16, &[], &[])?;
+        assert_eq!(rt; outcome.status, 2, "{word}");
+        assert_eq!(rt;
+            outcome.err.as_slice(),
+            b"usage: layout1\n".as_slice(),
+            "{word}"
+        );
+        assert_eq!(rt; outcome.reads, 0, "{word}");
+        assert_eq!(rt; outcome.out.calls, 0, "{word}");
+    }
+    Ok(())
+}
+
+#[test]
+fn a_source_that_fails_at_each_call_in_turn(rt: HostRuntime) -> Result<(), Fail> {
+    for (piece, calls) in [(1, 42), (16, 4)] {
+        for call in 0..calls {
+            let outcome = run(rt.alloc(), &[], CORNER_BLOCK, piece, &[call], &[])?;
+            assert_eq!(rt; outcome.status, 5, "piece {piece}, call {call}");
+            assert_eq!(rt;
+                outcome.err.as_slice(),
+                b"read failed\n".as_slice(),
+                "piece {piece}, call {call}"
+            );
+            assert_eq!(rt; outcome.out.calls, 0, "piece {piece}, call {call}");
+        }
+        let outcome = run(rt.alloc(), &[], CORNER_BLOCK, piece, &[calls], &[])?;
+        assert_eq!(rt; outcome.status, 0, "piece {piece}");
+    }
+    Ok(())
+}
+
+#[test]
+fn a_sink_that_fails_at_each_call_in_turn(rt: HostRuntime) -> Result<(), Fail> {
+    for (piece, calls) in [(1, 369), (16, 24)] {
+        for call in 0..calls {
+            let outcome = run(rt.alloc(), &[], CORNER_BLOCK, piece, &[], &[call])?;
+            assert_eq!(rt; outcome.status, 6, "piece {piece}, call {call}");
+            assert_eq!(rt;
+                outcome.err.as_slice(),
+                b"write failed\n".as_slice(),
+                "piece {piece}, call {call}"
+            );
+            assert_eq!(rt;
+                outcome.out.bytes.len() as u64,
+                call * piece as u64,
+                "piece {piece}, call {call}"
+            );
+            assert!(rt;
+                CORNER_BLOCK_DOCUMENT.starts_with(outcome.out.as_slice()),
+                "piece {piece}, call {call}"
+            );
+        }
+        let outcome = run(rt.alloc(), &[], CORNER_BLOCK, piece, &[], &[calls])?;
+        assert_eq!(rt; outcome.status, 0, "piece {piece}");
+    }
+    Ok(())
+}

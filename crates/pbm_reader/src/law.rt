@@ -1,0 +1,15 @@
+//! The law of the format: what the definitions say of all byte lists at once.
+ghost use Rattle.std.specs.Prelude.{◌≡◌, ◌⊎◌, ℕ, List};
+ghost use Rattle.pbm_reader.specs.declared.fault.PageFault.{PageFault};
+ghost use Rattle.pbm_reader.specs.Page.{Page};
+ghost use Rattle.pbm_reader.specs.Spelling.{IsPage, Spells};
+ghost use Rattle.pbm_reader.specs.Fault.{HasFault};
+
+/// Each byte list spells exactly one page or has exactly one fault, and never both. It is a law of
+/// the definitions, and does nothing.
+pub fn each_input_is_judged()
+    ensures page_or_fault { (input : List ℕ) → IsPage input ⊎ ((fault : PageFault) × HasFault input fault) }
+    ensures one_page { (input : List ℕ) (p q : Page) → Spells input p → Spells input q → p ≡ q }
+    ensures one_fault { (input : List ℕ) (f g : PageFault) → HasFault input f → HasFault input g → f ≡ g }
+    ensures never_both { (input : List ℕ) (page : Page) (fault : PageFault) → Spells input page → HasFault input fault → ⊥ }
+{}
