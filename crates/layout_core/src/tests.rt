@@ -1,4 +1,6 @@
 //! Runs over memory: the worked pages and faults, and devices that fail at each of their calls.
+ghost use Rattle.std.specs.Prelude.{◌<◌};
+
 use crate::layout_alone;
 use layout_outside::{MemSink, MemSource};
 use std::alloc::Global;

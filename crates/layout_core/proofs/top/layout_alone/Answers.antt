@@ -1,4 +1,4 @@
-use Rattle.std.proofs.Common.{◌≡◌, Err, sym, ap, ◌∙◌}
+use Rattle.std.proofs.Common.{Err, sym, ap, ◌∙◌}
 use Rattle.layout_core.proofs.Ends.{ends_bad, ends_unread, ends_unmade}
 use Rattle.layout_core.proofs.top.layout_alone.Goals as goal
 
