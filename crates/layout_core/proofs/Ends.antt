@@ -1,40 +1,75 @@
--- What the refusal of a page says of a run's status and of its line.
-use Rattle.std.proofs.Common.{◌≡◌, ℕ, List, Option, refl, arith}
+-- What the refusal of a layout says of a run's status and of its line.
+use Rattle.std.proofs.Common.{◌≡◌, ◌⊎◌, ℕ, List, Option, refl, ap, ◌∙◌, inl, inr, arith}
 use Rattle.layout_outside.specs.Causes.{Rose}
 use Rattle.pbm_reader.specs.declared.fault.PageFault.{PageFault}
 use Rattle.pbm_reader.specs.declared.fault.PageFault.TheVariants as faults
-use Rattle.pbm_reader.specs.Reading.{Refuses}
-use Rattle.layout_core.specs.declared.refusal.Refusal.TheVariants.{Page, Memory}
+use Rattle.layout_core.specs.declared.refusal.Refusal.{Refusal}
+use Rattle.layout_core.specs.declared.refusal.Refusal.TheVariants as refusals
 use Rattle.layout_core.specs.Line.{line_of, fault_line}
-use Rattle.layout_core.specs.Status.{fault_status, WritesLine, RefusesPage, IsUndecided}
+use Rattle.layout_core.specs.Status.{status_of, WritesLine, RefusesPage, RefusesComponents, RefusesLayout, IsUndecided, IsWantOfMemory}
 
-pub ends_bad : (old new err_old err_new : Option (List ℕ)) (before now : ℕ) (fault : PageFault) → Refuses old new fault → WritesLine err_old err_new before now (line_of (Page fault))
-    → fault_status fault ≡ 3 → RefusesPage old err_old err_new before now
+pub ends_bad : (old new err_old err_new : Option (List ℕ)) (before now : ℕ) (refusal : Refusal) → RefusesLayout old new refusal → WritesLine err_old err_new before now (line_of refusal)
+    → status_of refusal ≡ 3 → RefusesPage old err_old err_new before now
 unfolding line_of
-ends_bad old new err_old err_new before now (faults.Magic at) r line s = record { fault = faults.Magic at; status = refl; has = r; line = line }
-ends_bad old new err_old err_new before now (faults.Header at) r line s = record { fault = faults.Header at; status = refl; has = r; line = line }
-ends_bad old new err_old err_new before now (faults.Truncated at) r line s = record { fault = faults.Truncated at; status = refl; has = r; line = line }
-ends_bad old new err_old err_new before now (faults.Trailing at) r line s = record { fault = faults.Trailing at; status = refl; has = r; line = line }
-ends_bad old new err_old err_new before now faults.ReadFault r line s = absurd (omega (arith, s))
-ends_bad old new err_old err_new before now faults.Memory r line s = absurd (omega (arith, s))
+ends_bad old new err_old err_new before now (refusals.Page (faults.Magic at)) r line s = record { fault = faults.Magic at; status = refl; has = r; line = line }
+ends_bad old new err_old err_new before now (refusals.Page (faults.Header at)) r line s = record { fault = faults.Header at; status = refl; has = r; line = line }
+ends_bad old new err_old err_new before now (refusals.Page (faults.Truncated at)) r line s = record { fault = faults.Truncated at; status = refl; has = r; line = line }
+ends_bad old new err_old err_new before now (refusals.Page (faults.Trailing at)) r line s = record { fault = faults.Trailing at; status = refl; has = r; line = line }
+ends_bad old new err_old err_new before now (refusals.Page faults.ReadFault) r line s = absurd (omega (arith, s))
+ends_bad old new err_old err_new before now (refusals.Page faults.Memory) r line s = absurd (omega (arith, s))
+ends_bad old new err_old err_new before now (refusals.TooMany count) r line s = absurd (omega (arith, s))
+ends_bad old new err_old err_new before now refusals.Memory r line s = absurd (omega (arith, s))
+ends_bad old new err_old err_new before now refusals.WriteFault r line s = absurd r
+ends_bad old new err_old err_new before now refusals.Usage r line s = absurd r
 
-pub ends_unread : (old new err_old err_new : Option (List ℕ)) (before now first last : ℕ) (fault : PageFault) → Refuses old new fault → (fault ≡ faults.ReadFault → Rose first last)
-    → WritesLine err_old err_new before now (line_of (Page fault)) → fault_status fault ≡ 5
+pub ends_full : (old new err_old err_new : Option (List ℕ)) (before now : ℕ) (refusal : Refusal) → RefusesLayout old new refusal → WritesLine err_old err_new before now (line_of refusal)
+    → status_of refusal ≡ 4 → RefusesComponents old new err_old err_new before now
+ends_full old new err_old err_new before now (refusals.Page (faults.Magic at)) r line s = absurd (omega (arith, s))
+ends_full old new err_old err_new before now (refusals.Page (faults.Header at)) r line s = absurd (omega (arith, s))
+ends_full old new err_old err_new before now (refusals.Page (faults.Truncated at)) r line s = absurd (omega (arith, s))
+ends_full old new err_old err_new before now (refusals.Page (faults.Trailing at)) r line s = absurd (omega (arith, s))
+ends_full old new err_old err_new before now (refusals.Page faults.ReadFault) r line s = absurd (omega (arith, s))
+ends_full old new err_old err_new before now (refusals.Page faults.Memory) r line s = absurd (omega (arith, s))
+ends_full old new err_old err_new before now (refusals.TooMany count) r line s = record { count = count; too_many = r; line = line }
+ends_full old new err_old err_new before now refusals.Memory r line s = absurd (omega (arith, s))
+ends_full old new err_old err_new before now refusals.WriteFault r line s = absurd r
+ends_full old new err_old err_new before now refusals.Usage r line s = absurd r
+
+pub ends_unread : (old new err_old err_new : Option (List ℕ)) (before now first last : ℕ) (refusal : Refusal) → RefusesLayout old new refusal → (refusal ≡ refusals.Page faults.ReadFault → Rose first last)
+    → WritesLine err_old err_new before now (line_of refusal) → status_of refusal ≡ 5
     → Rose first last × IsUndecided old new × WritesLine err_old err_new before now (fault_line faults.ReadFault)
 unfolding line_of
-ends_unread old new err_old err_new before now first last (faults.Magic at) r rose line s = absurd (omega (arith, s))
-ends_unread old new err_old err_new before now first last (faults.Header at) r rose line s = absurd (omega (arith, s))
-ends_unread old new err_old err_new before now first last (faults.Truncated at) r rose line s = absurd (omega (arith, s))
-ends_unread old new err_old err_new before now first last (faults.Trailing at) r rose line s = absurd (omega (arith, s))
-ends_unread old new err_old err_new before now first last faults.ReadFault r rose line s = (rose refl, r, line)
-ends_unread old new err_old err_new before now first last faults.Memory r rose line s = absurd (omega (arith, s))
+ends_unread old new err_old err_new before now first last (refusals.Page (faults.Magic at)) r rose line s = absurd (omega (arith, s))
+ends_unread old new err_old err_new before now first last (refusals.Page (faults.Header at)) r rose line s = absurd (omega (arith, s))
+ends_unread old new err_old err_new before now first last (refusals.Page (faults.Truncated at)) r rose line s = absurd (omega (arith, s))
+ends_unread old new err_old err_new before now first last (refusals.Page (faults.Trailing at)) r rose line s = absurd (omega (arith, s))
+ends_unread old new err_old err_new before now first last (refusals.Page faults.ReadFault) r rose line s = (rose refl, r, line)
+ends_unread old new err_old err_new before now first last (refusals.Page faults.Memory) r rose line s = absurd (omega (arith, s))
+ends_unread old new err_old err_new before now first last (refusals.TooMany count) r rose line s = absurd (omega (arith, s))
+ends_unread old new err_old err_new before now first last refusals.Memory r rose line s = absurd (omega (arith, s))
+ends_unread old new err_old err_new before now first last refusals.WriteFault r rose line s = absurd r
+ends_unread old new err_old err_new before now first last refusals.Usage r rose line s = absurd r
 
-pub ends_unmade : (err_old err_new : Option (List ℕ)) (before now : ℕ) (fault : PageFault) → WritesLine err_old err_new before now (line_of (Page fault)) → fault_status fault ≡ 7
-    → WritesLine err_old err_new before now (line_of Memory)
+pub ends_unmade : (err_old err_new : Option (List ℕ)) (before now : ℕ) (refusal : Refusal) → WritesLine err_old err_new before now (line_of refusal) → status_of refusal ≡ 7
+    → WritesLine err_old err_new before now (line_of refusals.Memory)
 unfolding line_of
-ends_unmade err_old err_new before now (faults.Magic at) line s = absurd (omega (arith, s))
-ends_unmade err_old err_new before now (faults.Header at) line s = absurd (omega (arith, s))
-ends_unmade err_old err_new before now (faults.Truncated at) line s = absurd (omega (arith, s))
-ends_unmade err_old err_new before now (faults.Trailing at) line s = absurd (omega (arith, s))
-ends_unmade err_old err_new before now faults.ReadFault line s = absurd (omega (arith, s))
-ends_unmade err_old err_new before now faults.Memory line s = line
+ends_unmade err_old err_new before now (refusals.Page (faults.Magic at)) line s = absurd (omega (arith, s))
+ends_unmade err_old err_new before now (refusals.Page (faults.Header at)) line s = absurd (omega (arith, s))
+ends_unmade err_old err_new before now (refusals.Page (faults.Truncated at)) line s = absurd (omega (arith, s))
+ends_unmade err_old err_new before now (refusals.Page (faults.Trailing at)) line s = absurd (omega (arith, s))
+ends_unmade err_old err_new before now (refusals.Page faults.ReadFault) line s = absurd (omega (arith, s))
+ends_unmade err_old err_new before now (refusals.Page faults.Memory) line s = line
+ends_unmade err_old err_new before now (refusals.TooMany count) line s = absurd (omega (arith, s))
+ends_unmade err_old err_new before now refusals.Memory line s = line
+ends_unmade err_old err_new before now refusals.WriteFault line s = absurd (omega (arith, s))
+ends_unmade err_old err_new before now refusals.Usage line s = absurd (omega (arith, s))
+
+-- the status of an answer that is the wanted refusal or want of memory
+pub ends_answered : (status : ℕ) (wanted refusal : Refusal) → status ≡ status_of refusal → (refusal ≡ wanted) ⊎ IsWantOfMemory refusal → (status ≡ status_of wanted) ⊎ (status ≡ 7)
+ends_answered status wanted refusal is (inl same) = inl (is ∙ ap status_of same)
+ends_answered status wanted refusal is (inr (inl memory)) = inr (is ∙ ap status_of memory)
+ends_answered status wanted refusal is (inr (inr memory)) = inr (is ∙ ap status_of memory)
+
+pub ends_memory : (status : ℕ) (refusal : Refusal) → status ≡ status_of refusal → IsWantOfMemory refusal → status ≡ 7
+ends_memory status refusal is (inl memory) = is ∙ ap status_of memory
+ends_memory status refusal is (inr memory) = is ∙ ap status_of memory

@@ -1,3 +1,2 @@
-pub mod Counted
-pub mod Ones
 pub mod Ends
+pub mod Components

@@ -1,6 +1,5 @@
 -- What a run makes of a page, and how it ends.
-pub mod Black
-pub mod Counting
 pub mod Run
+pub mod Components
 pub mod Line
 pub mod Status

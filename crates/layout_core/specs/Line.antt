@@ -22,5 +22,6 @@ fault_line faults.Memory = codes "out of memory\n"
 unfoldable pub line_of : Refusal → List ℕ
 line_of refusals.Usage = codes "usage: layout1\n"
 line_of (refusals.Page fault) = fault_line fault
+line_of (refusals.TooMany count) = codes "limit: " ++ decimal count ++ codes " components\n"
 line_of refusals.WriteFault = codes "write failed\n"
 line_of refusals.Memory = codes "out of memory\n"

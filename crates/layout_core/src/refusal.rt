@@ -4,6 +4,7 @@ ghost use Rattle.layout_core.specs.Line.{place_line, fault_line, line_of};
 ghost use Rattle.layout_core.specs.Status.{fault_status, status_of, WritesLine};
 
 use arrayvec::ArrayString;
+use components::CompFault;
 use itoa::Buffer;
 use layout_outside::{Sink, put_all};
 use pbm_reader::PageFault;
@@ -18,10 +19,37 @@ pub enum Refusal {
     Usage,
     /// No page was read.
     Page(PageFault),
+    /// More than 60,000 components of the page are kept, and so many.
+    TooMany { count: u32 },
     /// A write to `out` failed.
     WriteFault,
     /// Memory was refused.
     Memory,
+}
+
+impl From<PageFault> for Refusal {
+    ghost use Rattle.std.specs.Prelude.{◌≡◌};
+    ghost use Rattle.layout_core.specs.declared.refusal.Refusal.TheVariants.{Page};
+
+    ghost from_gives = { λ fault refusal. refusal ≡ Page fault };
+
+    fn from(fault: PageFault) -> Refusal {
+        Refusal::Page(fault)
+    }
+}
+
+impl From<CompFault> for Refusal {
+    ghost use Rattle.std.specs.Prelude.{◌≡◌};
+    ghost use Rattle.layout_core.specs.Components.{refusal_of};
+
+    ghost from_gives = { λ fault refusal. refusal ≡ refusal_of fault };
+
+    fn from(fault: CompFault) -> Refusal {
+        match fault {
+            CompFault::TooMany { count } => Refusal::TooMany { count },
+            CompFault::Memory => Refusal::Memory,
+        }
+    }
 }
 
 impl Refusal {
@@ -32,6 +60,7 @@ impl Refusal {
         match self {
             Refusal::Usage => 2,
             Refusal::Page(fault) => status_of_fault(fault),
+            Refusal::TooMany { .. } => 4,
             Refusal::WriteFault => 6,
             Refusal::Memory => 7,
         }
@@ -45,6 +74,7 @@ impl Refusal {
         match self {
             Refusal::Usage => line_from("usage: layout1\n"),
             Refusal::Page(fault) => line_of_fault(fault),
+            Refusal::TooMany { count } => line_of_count(*count),
             Refusal::WriteFault => line_from("write failed\n"),
             Refusal::Memory => line_from("out of memory\n"),
         }
@@ -111,5 +141,17 @@ fn line_of_place(what: &str, at: u64) -> Line
     line.push_str(" at ");
     line.push_str(buffer.format(at));
     line.push_str("\n");
+    line
+}
+
+/// The line that counts the components of a page that has too many.
+fn line_of_count(count: u32) -> Line
+    ensures { result.bytes ≡ codes "limit: " ++ decimal count ++ codes " components\n" }
+{
+    let mut buffer = Buffer::new();
+    let mut line = Line::new();
+    line.push_str("limit: ");
+    line.push_str(buffer.format(count));
+    line.push_str(" components\n");
     line
 }

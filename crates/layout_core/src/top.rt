@@ -1,52 +1,32 @@
 //! The whole run on one thread.
-ghost use Rattle.std.specs.Prelude.{◌≡◌, ◌≢◌, ◌<◌, ◌⊎◌, ◌↔◌, ℕ, List, length, Some, IfSome, IfOk, IfErr, IsOkUnless};
+ghost use Rattle.std.specs.Prelude.{◌≡◌, ◌≢◌, ◌⊎◌, ℕ, List, Some};
 ghost use Rattle.layout_outside.specs.Causes.{Rose};
 ghost use Rattle.pbm_reader.specs.declared.fault.PageFault.{PageFault};
-ghost use Rattle.pbm_reader.specs.Spelling.{IsPage};
+ghost use Rattle.pbm_reader.specs.Page.{Page};
+ghost use Rattle.pbm_reader.specs.Spelling.{Spells};
 ghost use Rattle.pbm_reader.specs.Fault.{HasFault};
-ghost use Rattle.pbm_reader.specs.Reading.{AnswersFault, HasReadCause, Refuses};
-ghost use Rattle.layout_core.specs.Run.{ReadsLayout, WritesDocument, FrontOfDocument};
+ghost use Rattle.layout_core.specs.Run.{HasFewComponents, HasTooMany, WritesDocument, FrontOfDocument};
 ghost use Rattle.layout_core.specs.Line.{line_of, fault_line};
-ghost use Rattle.layout_core.specs.Status.{HasPlan, IsStatus, WritesLine, RefusesPage, IsUndecided};
+ghost use Rattle.layout_core.specs.Status.{HasPlan, IsStatus, WritesLine, RefusesPage, RefusesComponents, IsUndecided};
 ghost use Rattle.layout_core.specs.declared.refusal.Refusal.{Refusal};
 
-use crate::black::BlackCount;
+use crate::page_layout::read_layout;
 use crate::refusal::{Refusal, refuse};
-use hocr_writer::{Layout, hocr_text};
+use hocr_writer::hocr_text;
 use layout_outside::{Sink, Source, put_all};
-use pbm_reader::{PageFault, read_page};
 use std::alloc::Global;
-
-/// Reads a page, and finds its layout.
-fn read_layout<S: Source>(alloc: Global, src: &mut S) -> Result<Layout, PageFault>
-    ensures layout { IfOk result (ReadsLayout (S.left src.old) (S.left src.new)) }
-    ensures fault { IfErr result (Refuses (S.left src.old) (S.left src.new)) }
-    ensures cause { HasReadCause (S.faults src.old) (S.faults src.new) result }
-    ensures complete { (input : List ℕ) → S.left src.old ≡ Some input → IsPage input
-        → ¬ Rose (S.faults src.old) (S.faults src.new) → IsOkUnless result PageFault.Memory }
-    ensures faulty { (input : List ℕ) (fault : PageFault) → S.left src.old ≡ Some input → HasFault input fault
-        → ¬ Rose (S.faults src.old) (S.faults src.new) → AnswersFault fault result }
-{
-    let mut count = BlackCount::new();
-    let size = read_page(alloc, src, &mut count)?;
-    Ok(Layout {
-        page: 0,
-        width: size.width,
-        height: size.height,
-        black: count.black(),
-    })
-}
 
 /// Reads a page from the source, writes its document to `out`, and answers the status of the run:
 ///
 /// - 0: the input was read to its end, and the page's document was written whole;
 /// - 2: there is a word, and no word is understood yet; nothing was read;
 /// - 3: the input spells no page in the narrow form of Netpbm's raw PBM;
+/// - 4: more than 60,000 components of the page are kept;
 /// - 5: a read failed before the bytes that were taken decided a fault of the input;
 /// - 6: a write to `out` failed, and a proper front of the document was written;
 /// - 7: memory was refused.
 ///
-/// On 2, 3, 5 and 7 nothing was written to `out`. On 2 to 7 one line that says why was written to
+/// On 2 to 5 and 7 nothing was written to `out`. On 2 to 7 one line that says why was written to
 /// `err`, or a front of it where a write to `err` failed; this takes no memory.
 pub fn layout_alone<S: Source, K: Sink, E: Sink>(
     alloc: Global,
@@ -71,6 +51,12 @@ pub fn layout_alone<S: Source, K: Sink, E: Sink>(
     ensures faulty { HasPlan words.now → (input : List ℕ) (fault : PageFault) → S.left src.old ≡ Some input → HasFault input fault
         → ¬ Rose (S.faults src.old) (S.faults src.new) → (result ≡ 3) ⊎ (result ≡ 7) }
 
+    // 4 comes exactly where more than 60,000 components are kept and the run reaches it, and the line counts them.
+    ensures too_many { result ≡ 4 → RefusesComponents (S.left src.old) (S.left src.new)
+        (E.written err.old) (E.written err.new) (E.faults err.old) (E.faults err.new) }
+    ensures limit { HasPlan words.now → (input : List ℕ) (page : Page) (count : ℕ) → S.left src.old ≡ Some input → Spells input page
+        → HasTooMany page count → ¬ Rose (S.faults src.old) (S.faults src.new) → (result ≡ 4) ⊎ (result ≡ 7) }
+
     ensures read_fault { result ≡ 5 → Rose (S.faults src.old) (S.faults src.new)
         × IsUndecided (S.left src.old) (S.left src.new)
         × WritesLine (E.written err.old) (E.written err.new) (E.faults err.old) (E.faults err.new) (fault_line PageFault.ReadFault) }
@@ -84,9 +70,9 @@ pub fn layout_alone<S: Source, K: Sink, E: Sink>(
         WritesLine (E.written err.old) (E.written err.new) (E.faults err.old) (E.faults err.new) (line_of Refusal.Memory) }
     ensures unwritten { result ≢ 0 → result ≢ 6 → out.new ≡ out.old }
 
-    // A page that no read failed on is done, unless a write failed or memory was refused.
-    ensures complete { HasPlan words.now → (input : List ℕ) → S.left src.old ≡ Some input → IsPage input
-        → ¬ Rose (S.faults src.old) (S.faults src.new)
+    // A page with few components that no read failed on is done, unless a write failed or memory was refused.
+    ensures complete { HasPlan words.now → (input : List ℕ) (page : Page) → S.left src.old ≡ Some input → Spells input page
+        → HasFewComponents page → ¬ Rose (S.faults src.old) (S.faults src.new)
         → (result ≡ 0) ⊎ ((result ≡ 6) × Rose (K.faults out.old) (K.faults out.new)) ⊎ (result ≡ 7) }
 {
     if !words.is_empty() {
@@ -94,7 +80,7 @@ pub fn layout_alone<S: Source, K: Sink, E: Sink>(
     }
     let layout = match read_layout(alloc, src) {
         Ok(layout) => layout,
-        Err(fault) => return refuse(err, Refusal::Page(fault)),
+        Err(refusal) => return refuse(err, refusal),
     };
     let Ok(text) = hocr_text(alloc, &layout) else {
         return refuse(err, Refusal::Memory);

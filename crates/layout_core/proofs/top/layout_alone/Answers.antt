@@ -1,5 +1,6 @@
-use Rattle.std.proofs.Common.{Err, sym, ap, ◌∙◌}
-use Rattle.layout_core.proofs.Ends.{ends_bad, ends_unread, ends_unmade}
+use Rattle.std.proofs.Common.{◌≡◌, Err, sym, ap, ◌∙◌, rules}
+use Rattle.layout_core.specs.declared.refusal.Refusal.TheVariants.{TooMany}
+use Rattle.layout_core.proofs.Ends.{ends_bad, ends_full, ends_unread, ends_unmade, ends_answered, ends_memory}
 use Rattle.layout_core.proofs.top.layout_alone.Goals as goal
 
 pub returns-in-Err-clause-bad_page : goal.returns-in-Err-clause-bad_page
@@ -7,7 +8,20 @@ returns-in-Err-clause-bad_page g c =
     let out = c.refuse-in-Err.ensures in
     λ status.
     ends_bad (g.S.Source.left c.args.src.now) (g.S.Source.left c.read_layout.new.src) (g.E.Sink.written c.args.err.now) (g.E.Sink.written c.refuse-in-Err.new.err)
-    (g.E.Sink.faults c.args.err.now) (g.E.Sink.faults c.refuse-in-Err.new.err) c.in-Err.fault c.in-Err.ensures.fault out.line (sym out.status ∙ status)
+    (g.E.Sink.faults c.args.err.now) (g.E.Sink.faults c.refuse-in-Err.new.err) c.in-Err.refusal c.in-Err.ensures.refused out.line (sym out.status ∙ status)
+
+pub returns-in-Err-clause-too_many : goal.returns-in-Err-clause-too_many
+returns-in-Err-clause-too_many g c =
+    let out = c.refuse-in-Err.ensures in
+    λ status.
+    ends_full (g.S.Source.left c.args.src.now) (g.S.Source.left c.read_layout.new.src) (g.E.Sink.written c.args.err.now) (g.E.Sink.written c.refuse-in-Err.new.err)
+    (g.E.Sink.faults c.args.err.now) (g.E.Sink.faults c.refuse-in-Err.new.err) c.in-Err.refusal c.in-Err.ensures.refused out.line (sym out.status ∙ status)
+
+pub returns-in-Err-clause-limit : goal.returns-in-Err-clause-limit
+returns-in-Err-clause-limit g c =
+    let out = c.refuse-in-Err.ensures in
+    λ plan input page count told spells many calm.
+    ends_answered c.refuse-in-Err.result (TooMany count) c.in-Err.refusal out.status (c.in-Err.ensures.limit input page count told spells many calm).1
 
 pub returns-in-Err-clause-read_fault : goal.returns-in-Err-clause-read_fault
 returns-in-Err-clause-read_fault g c =
@@ -15,11 +29,29 @@ returns-in-Err-clause-read_fault g c =
     λ status.
     ends_unread (g.S.Source.left c.args.src.now) (g.S.Source.left c.read_layout.new.src) (g.E.Sink.written c.args.err.now) (g.E.Sink.written c.refuse-in-Err.new.err)
     (g.E.Sink.faults c.args.err.now) (g.E.Sink.faults c.refuse-in-Err.new.err) (g.S.Source.faults c.args.src.now) (g.S.Source.faults c.read_layout.new.src)
-    c.in-Err.fault c.in-Err.ensures.fault (λ is. c.in-Err.ensures.cause.failed (ap (λ f. Err f) is)) out.line (sym out.status ∙ status)
+    c.in-Err.refusal c.in-Err.ensures.refused (λ is. c.in-Err.ensures.cause.failed (ap (λ r. Err r) is)) out.line (sym out.status ∙ status)
 
 pub returns-in-Err-clause-memory : goal.returns-in-Err-clause-memory
 returns-in-Err-clause-memory g c =
     let out = c.refuse-in-Err.ensures in
     λ status.
     ends_unmade (g.E.Sink.written c.args.err.now) (g.E.Sink.written c.refuse-in-Err.new.err) (g.E.Sink.faults c.args.err.now) (g.E.Sink.faults c.refuse-in-Err.new.err)
-    c.in-Err.fault out.line (sym out.status ∙ status)
+    c.in-Err.refusal out.line (sym out.status ∙ status)
+
+pub returns-in-Err-clause-complete : goal.returns-in-Err-clause-complete
+returns-in-Err-clause-complete g c =
+    λ plan input page told spells few calm.
+    let seven : c.refuse-in-Err.result ≡ 7 = ends_memory c.refuse-in-Err.result c.in-Err.refusal c.refuse-in-Err.ensures.status (c.in-Err.ensures.complete input page told spells few calm) in
+    search rules
+
+pub returns-in-Ok-put_all-clause-limit : goal.returns-in-Ok-put_all-clause-limit
+returns-in-Ok-put_all-clause-limit g c =
+    λ plan input page count told spells many calm.
+    let none = (c.in-Ok.ensures.limit input page count told spells many calm).0 in
+    absurd (cc none)
+
+pub returns-clause-limit : goal.returns-clause-limit
+returns-clause-limit g c =
+    λ plan input page count told spells many calm.
+    let none = (c.in-Ok.ensures.limit input page count told spells many calm).0 in
+    absurd (cc none)

@@ -1,0 +1,66 @@
+-- The kept boxes of a page, and their median height.
+use Rattle.std.specs.Prelude.{◌≡◌, ◌<◌, ◌≤◌, ℕ, ◌-◌, ◌*◌, ◌/◌, ⊤, List, length, map, slice_index}
+use Rattle.std.specs.Ordering.{nat_cmp, ordering_then}
+use Rattle.std.specs.declared.cmp.Ordering.{Ordering}
+use Rattle.std.specs.List.Sorted.{IsPermutation, IsSorted, IsNonDecreasing}
+use Rattle.page_runs.specs.Page.{Page}
+use Rattle.layout_geom.specs.declared.rect.Rect.{Rect}
+use Rattle.layout_geom.specs.Rectangles.{width_of, height_of}
+use Rattle.components.specs.declared.kept.Kept.{Kept}
+use Rattle.components.specs.declared.kept.CompFault.{CompFault}
+use Rattle.components.specs.declared.kept.CompFault.TheVariants as faults
+use Rattle.components.specs.declared.place.Place.{Place}
+use Rattle.components.specs.Boxes.{AreKept}
+
+-- by the upper side, then the left, the lower and the right one
+abbrev pub compare_boxes : Rect → Rect → Ordering
+compare_boxes r s = ordering_then (ordering_then (ordering_then (nat_cmp r.y0 s.y0) (nat_cmp r.x0 s.x0)) (nat_cmp r.y1 s.y1)) (nat_cmp r.x1 s.x1)
+
+-- the boxes of the kept components, one for each component, in any order
+pub record IsKeptBoxes (page : Page) (boxes : List Rect) : Type 0 where
+  pub places : List Place
+  pub are_kept : AreKept page places boxes
+
+-- the boxes of the kept components, one for each component, in order
+pub record IsKeptList (page : Page) (boxes : List Rect) : Type 0 where
+  pub found : List Rect
+  pub is_kept : IsKeptBoxes page found
+  pub rearranged : IsPermutation found boxes
+  pub sorted : IsSorted compare_boxes boxes
+
+-- so many components are kept
+pub record IsKeptCount (page : Page) (count : ℕ) : Type 0 where
+  pub found : List Rect
+  pub is_kept : IsKeptBoxes page found
+  pub counted : length found ≡ count
+
+-- the number in the middle of the rising numbers, the lower one of two, and 0 where there is none
+pub record IsLowerMedian (numbers : List ℕ) (median : ℕ) : Type 0 where
+  pub rising : List ℕ
+  pub rearranged : IsPermutation numbers rising
+  pub rises : IsNonDecreasing rising
+  pub middle : median ≡ slice_index rising ((length rising - 1) / 2)
+
+-- the kept boxes of the page and the median of their heights
+pub record IsKeptOf (page : Page) (kept : Kept) : Type 0 where
+  pub boxes : IsKeptList page kept.boxes
+  pub few : length kept.boxes ≤ 60000
+  pub median : IsLowerMedian (map height_of kept.boxes) kept.median
+
+-- why there is no answer
+abbrev pub IsFaultOf : Page → CompFault → Type 0
+IsFaultOf page (faults.TooMany count) = IsKeptCount page count × (60000 < count)
+IsFaultOf page faults.Memory = ⊤
+
+pub record IsCharSized (box : Rect) (median : ℕ) : Type 0 where
+  pub high : median ≤ 2 * height_of box
+  pub low : height_of box ≤ 3 * median
+  pub narrow : width_of box ≤ 6 * median
+
+-- a page has one list of kept boxes, and one number of kept components
+pub record HasOneKeptList (page : Page) : Type 0 where
+  pub one_list : (boxes others : List Rect) → IsKeptList page boxes → IsKeptList page others → boxes ≡ others
+  pub one_count : (m n : ℕ) → IsKeptCount page m → IsKeptCount page n → m ≡ n
+
+abbrev pub KeptIsUnique : Type 0
+KeptIsUnique = (page : Page) → HasOneKeptList page

@@ -1,0 +1,183 @@
+//! The walk over one component, run by run.
+ghost use Rattle.std.specs.Prelude.{◌≡◌, ◌<◌, ◌≤◌, ◌+◌, ℕ, OnOk, IfOk, length};
+ghost use Rattle.page_runs.specs.Packed.{IsWhole, page_of};
+ghost use Rattle.layout_geom.specs.Sides.{AreSides};
+ghost use Rattle.layout_geom.specs.Rectangles.{HasSides};
+ghost use Rattle.components.specs.declared.place.Place.{Place as PlaceValue};
+ghost use Rattle.components.specs.Connected.{IsConnected};
+ghost use Rattle.components.specs.Boxes.{IsBoxOf};
+ghost use Rattle.components.specs.Runs.{AreInOrder, AreStarts, IsRunTable, IsTouching, IsTouchingAt, IsMarkedRun, IsSeen, GrowsRuns, SpreadsOver, run_at, first_of};
+
+use crate::bounds::Bounds;
+use crate::place::Place;
+use crate::row_runs::Run;
+use crate::run_table::RunTable;
+use layout_geom::Rect;
+use page_runs::{OutOfMemory, RunPage};
+use std::alloc::Global;
+
+/// Marks a run that has no mark, and lets it wait.
+fn visit(marks: &mut Vec<bool>, waiting: &mut Vec<usize>, i: usize) -> Result<(), OutOfMemory>
+    requires { i < length marks.old.items }
+    ensures grows { OnOk result (GrowsRuns (λ k. k ≡ i) marks.old.items marks.new.items waiting.old.items waiting.new.items) }
+    ensures gains { OnOk result (IsMarkedRun marks.new.items i) }
+{
+    if !marks[i] {
+        marks[i] = true;
+        waiting.push(i)?;
+    }
+    Ok(())
+}
+
+/// The first of the runs from `from` up to but not including `to` that ends at this column or right
+/// of it; these runs lie in one row.
+fn first_reaching(runs: &[Run], from: usize, to: usize, x: u16) -> usize
+    requires order { from ≤ to }
+    requires within { to ≤ length runs.now }
+    requires rises { (i j : ℕ) → from ≤ i → i < j → j < to → (run_at runs.now i).x1 ≤ (run_at runs.now j).x1 }
+    ensures not_before { from ≤ result }
+    ensures within { result ≤ to }
+    ensures before { (i : ℕ) → from ≤ i → i < result → (run_at runs.now i).x1 < x }
+    ensures after { (i : ℕ) → result ≤ i → i < to → x ≤ (run_at runs.now i).x1 }
+{
+    let mut low = from;
+    let mut high = to;
+    while low < high {
+        let middle = low + (high - low) / 2;
+        if runs[middle].x1 < x {
+            low = middle + 1;
+        } else {
+            high = middle;
+        }
+    }
+    low
+}
+
+/// Visits the runs of a row above or below that touch this one.
+fn visit_row(
+    table: &RunTable,
+    marks: &mut Vec<bool>,
+    waiting: &mut Vec<usize>,
+    run: Run,
+    row: usize,
+) -> Result<(), OutOfMemory>
+    requires in_order { AreInOrder table.now.runs.items }
+    requires starts { AreStarts table.now.runs.items table.now.starts.items }
+    requires row { row + 1 < length table.now.starts.items }
+    requires above { run.row ≤ row + 1 }
+    requires below { row ≤ run.row + 1 }
+    requires len { length marks.old.items ≡ length table.now.runs.items }
+    ensures grows { OnOk result (GrowsRuns (IsTouchingAt table.now.runs.items run) marks.old.items marks.new.items waiting.old.items waiting.new.items) }
+    ensures gains { OnOk result ((i : ℕ) → i < length table.now.runs.items → (run_at table.now.runs.items i).row ≡ row
+        → IsTouching run (run_at table.now.runs.items i) → IsMarkedRun marks.new.items i) }
+{
+    let to = table.starts[row + 1];
+    let from = first_reaching(&table.runs, table.starts[row], to, run.x0);
+    for i in from..to {
+        if run.x1 < table.runs[i].x0 {
+            return Ok(());
+        }
+        visit(marks, waiting, i)?;
+    }
+    Ok(())
+}
+
+/// Visits the runs of the row above that touch this one.
+fn visit_above(
+    table: &RunTable,
+    marks: &mut Vec<bool>,
+    waiting: &mut Vec<usize>,
+    run: Run,
+) -> Result<(), OutOfMemory>
+    requires in_order { AreInOrder table.now.runs.items }
+    requires starts { AreStarts table.now.runs.items table.now.starts.items }
+    requires row { run.row < length table.now.starts.items }
+    requires len { length marks.old.items ≡ length table.now.runs.items }
+    ensures grows { OnOk result (GrowsRuns (IsTouchingAt table.now.runs.items run) marks.old.items marks.new.items waiting.old.items waiting.new.items) }
+    ensures gains { OnOk result ((i : ℕ) → i < length table.now.runs.items → (run_at table.now.runs.items i).row + 1 ≡ run.row
+        → IsTouching run (run_at table.now.runs.items i) → IsMarkedRun marks.new.items i) }
+{
+    if run.row > 0 {
+        visit_row(table, marks, waiting, run, usize::from(run.row) - 1)?;
+    }
+    Ok(())
+}
+
+/// Visits the runs of the row below that touch this one.
+fn visit_below(
+    table: &RunTable,
+    marks: &mut Vec<bool>,
+    waiting: &mut Vec<usize>,
+    run: Run,
+) -> Result<(), OutOfMemory>
+    requires in_order { AreInOrder table.now.runs.items }
+    requires starts { AreStarts table.now.runs.items table.now.starts.items }
+    requires len { length marks.old.items ≡ length table.now.runs.items }
+    ensures grows { OnOk result (GrowsRuns (IsTouchingAt table.now.runs.items run) marks.old.items marks.new.items waiting.old.items waiting.new.items) }
+    ensures gains { OnOk result ((i : ℕ) → i < length table.now.runs.items → (run_at table.now.runs.items i).row ≡ run.row + 1
+        → IsTouching run (run_at table.now.runs.items i) → IsMarkedRun marks.new.items i) }
+{
+    let below = usize::from(run.row) + 1;
+    if below + 1 < table.starts.len() {
+        visit_row(table, marks, waiting, run, below)?;
+    }
+    Ok(())
+}
+
+/// The rectangle of the sides.
+fn box_of(bounds: Bounds) -> Rect
+    requires { AreSides bounds.x0 bounds.y0 bounds.x1 bounds.y1 }
+    ensures { HasSides result bounds.x0 bounds.y0 bounds.x1 bounds.y1 }
+{
+    match Rect::new(bounds.x0, bounds.y0, bounds.x1, bounds.y1) {
+        Some(rect) => rect,
+        None => unreachable!(),
+    }
+}
+
+/// Marks the runs of the component that a run without a mark belongs to, and gives the component's
+/// box. The list of runs to visit takes 8 bytes for each run of the component at most.
+pub(crate) fn flood(
+    alloc: Global,
+    page: &RunPage,
+    table: &RunTable,
+    marks: &mut Vec<bool>,
+    start: usize,
+) -> Result<Rect, OutOfMemory>
+    requires whole { IsWhole page.now }
+    requires table { IsRunTable (page_of page.now) table.now.runs.items table.now.starts.items }
+    requires len { length marks.old.items ≡ length table.now.runs.items }
+    requires below { start < length table.now.runs.items }
+    requires apart { (p : PlaceValue) → IsConnected (page_of page.now) (first_of (run_at table.now.runs.items start)) p
+        → IsSeen table.now.runs.items marks.old.items p → ⊥ }
+    ensures spreads { OnOk result (SpreadsOver (page_of page.now) (first_of (run_at table.now.runs.items start))
+        (IsSeen table.now.runs.items marks.old.items) (IsSeen table.now.runs.items marks.new.items)) }
+    ensures len { OnOk result (length marks.new.items ≡ length marks.old.items) }
+    ensures keeps { OnOk result ((i : ℕ) → IsMarkedRun marks.old.items i → IsMarkedRun marks.new.items i) }
+    ensures marked { OnOk result (IsMarkedRun marks.new.items start) }
+    ensures is_box { IfOk result (IsBoxOf (page_of page.now) (first_of (run_at table.now.runs.items start))) }
+{
+    let _size = page.height();
+    let first = table.runs[start];
+    let mut waiting = Vec::new(alloc);
+    marks[start] = true;
+    waiting.push(start)?;
+    let mut bounds = Bounds::of(Place {
+        x: first.x0,
+        y: first.row,
+    });
+    while let Some(i) = waiting.pop() {
+        let run = table.runs[i];
+        bounds.add(Place {
+            x: run.x0,
+            y: run.row,
+        });
+        bounds.add(Place {
+            x: run.x1 - 1,
+            y: run.row,
+        });
+        visit_above(table, marks, &mut waiting, run)?;
+        visit_below(table, marks, &mut waiting, run)?;
+    }
+    Ok(box_of(bounds))
+}

@@ -1,0 +1,32 @@
+//! The runs of a whole page, row by row.
+ghost use Rattle.std.specs.Prelude.{◌≡◌, IfOk};
+ghost use Rattle.page_runs.specs.Packed.{IsWhole, page_of};
+ghost use Rattle.components.specs.Runs.{IsRunTable};
+
+use crate::row_runs::{Run, add_row};
+use page_runs::{OutOfMemory, RunPage};
+use std::alloc::Global;
+
+/// The runs of a page by row and from the left. `starts` has the number of the first run of each
+/// row, and at its end the number of all runs.
+#[derive(Drop)]
+pub(crate) struct RunTable {
+    pub(crate) runs: Vec<Run>,
+    pub(crate) starts: Vec<usize>,
+}
+
+/// The runs of a page.
+pub(crate) fn run_table(alloc: Global, page: &RunPage) -> Result<RunTable, OutOfMemory>
+    requires { IsWhole page.now }
+    ensures { IfOk result (λ table. IsRunTable (page_of page.now) table.runs.items table.starts.items) }
+{
+    let width = page.width();
+    let mut runs = Vec::new(alloc);
+    let mut starts = Vec::new(alloc);
+    starts.push(0)?;
+    for y in 0..page.height() {
+        add_row(&mut runs, page.packed_row(y), y, width)?;
+        starts.push(runs.len())?;
+    }
+    Ok(RunTable { runs, starts })
+}

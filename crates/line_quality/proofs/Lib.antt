@@ -1,0 +1,4 @@
+pub mod Heights
+pub mod Middles
+pub mod Sums
+pub mod Decoding

@@ -1,0 +1,56 @@
+-- Lines of the grid, each a slope in thousandths and an offset.
+use Rattle.std.specs.Prelude.{ℕ, ◌+◌, ◌-◌, ◌*◌, ◌/◌, ℤ, pos, negsuc, ◌+ℤ◌, ◌-ℤ◌, ◌*ℤ◌, ◌≤ℤ◌, ◌<ℤ◌, Bool, ◌&&◌, int_lt, int_le, nat_le, unsigned_abs, List}
+use Rattle.std.specs.List.{count_by}
+use Rattle.std.specs.Int.{int_div_euclid}
+use Rattle.layout_geom.specs.declared.Rect.{Rect}
+
+-- the slopes and the offsets of the grids of all pages
+pub record IsSlope (slope : ℤ) : Type 0 where
+  pub low : negsuc 31 ≤ℤ slope
+  pub high : slope ≤ℤ pos 32
+
+pub record IsOffset (offset : ℤ) : Type 0 where
+  pub low : negsuc 299 ≤ℤ offset
+  pub high : offset ≤ℤ pos 8492
+
+-- how far a line of this slope has risen at column x, rounded towards the lesser number
+abbrev pub rise : ℤ → ℕ → ℤ
+rise slope x = int_div_euclid (slope *ℤ pos x) (pos 1000)
+
+-- the height of a line at column x
+abbrev pub height_at : ℤ → ℤ → ℕ → ℤ
+height_at slope offset x = offset +ℤ rise slope x
+
+-- the greatest whole number that is no greater than the offset and slope * x / 1000
+pub record IsRounded (slope offset : ℤ) (x : ℕ) (height : ℤ) : Type 0 where
+  pub no_greater : ((height -ℤ offset) *ℤ pos 1000) ≤ℤ (slope *ℤ pos x)
+  pub greatest : (slope *ℤ pos x) <ℤ ((height -ℤ offset) *ℤ pos 1000 +ℤ pos 1000)
+
+-- the middle column of a rectangle
+abbrev pub middle_of : Rect → ℕ
+middle_of r = (r.x0 + r.x1) / 2
+
+-- how far a line passes from the foot of a box
+abbrev pub deviation : ℤ → ℤ → Rect → ℕ
+deviation slope offset r = unsigned_abs (height_at slope offset (middle_of r) -ℤ pos r.y1)
+
+-- what a foot weighs that is this far from a line
+abbrev pub weight_at : ℕ → ℕ
+weight_at deviation = 25 - deviation * deviation
+
+abbrev pub weight : ℤ → ℤ → Rect → ℕ
+weight slope offset r = weight_at (deviation slope offset r)
+
+-- at the gutter's middle the line passes below its top edge and not below its foot
+pub record Crosses (slope offset : ℤ) (gutter : Rect) : Type 0 where
+  pub below_top : pos gutter.y0 <ℤ height_at slope offset (middle_of gutter)
+  pub above_foot : height_at slope offset (middle_of gutter) ≤ℤ pos gutter.y1
+
+-- the test of Crosses
+abbrev pub is_crossed : ℤ → ℤ → Rect → Bool
+is_crossed slope offset gutter =
+    int_lt (pos gutter.y0) (height_at slope offset (middle_of gutter)) && int_le (height_at slope offset (middle_of gutter)) (pos gutter.y1)
+
+-- how many crossed gutters have their middle at the anchor or left of it
+abbrev pub column_of : ℤ → ℤ → List Rect → ℕ → ℕ
+column_of slope offset gutters anchor = count_by (λ gutter. is_crossed slope offset gutter && nat_le (middle_of gutter) anchor) gutters

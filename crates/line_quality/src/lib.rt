@@ -1,0 +1,14 @@
+//! How well a line of text fits the boxes of a page: its height, what each box weighs for it, its
+//! score among the columns that gutters make, and the key that orders the lines.
+#![tactic(auto)]
+
+mod crossed;
+mod key;
+mod point;
+mod score;
+#[cfg(test)]
+mod tests;
+
+pub use key::{line_key, point_of};
+pub use point::{column, crosses, height_at, middle, weight, weight_at};
+pub use score::{COLUMNS, Score, greatest, score_at};

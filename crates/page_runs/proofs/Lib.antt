@@ -1,0 +1,4 @@
+pub mod Packing
+pub mod Counting
+pub mod Ones
+pub mod Held

@@ -1,0 +1,26 @@
+-- The black pixels of a page.
+use Rattle.std.specs.Prelude.{◌≡◌, ◌<◌, ◌≤◌, ℕ, ◌*◌, List, length, sum_by, count_by, nat_eq}
+use Rattle.std.specs.List.{range_with_len}
+use Rattle.pbm_reader.specs.Page.{Page, pixel, row_len, IsPageSize}
+use Rattle.page_runs.specs.Packed.{Packed, page_of}
+
+-- the black pixels of a row in packed bytes
+abbrev pub black_in : ℕ → List ℕ → ℕ
+black_in width bits = count_by (λ x. nat_eq (pixel bits x) 1) (range_with_len 0 width)
+
+-- the black places of the row y
+abbrev pub black_in_row : Page → ℕ → ℕ
+black_in_row page y = count_by (λ x. page.is_black x y) (range_with_len 0 page.width)
+
+-- the number of black places of a page
+abbrev pub black_of : Page → ℕ
+black_of page = sum_by (black_in_row page) (range_with_len 0 page.height)
+
+-- the bytes are those of the rows that are there, and so many of their places are black; a page that was not begun has no size
+pub record IsPacked (p : Packed) (black : ℕ) : Type 0 where
+  pub unbegun : p.height ≡ 0 → p.width ≡ 0
+  pub size : 0 < p.height → IsPageSize p.width p.height
+  pub few : p.rows ≤ p.height
+  pub len : length p.bytes ≡ p.rows * row_len p.width
+  pub counted : black ≡ black_of (page_of p)
+  pub bound : black ≤ 8192 * p.rows

@@ -1,0 +1,6 @@
+-- A page of which some first rows are there, and what it becomes that takes its rows.
+pub mod Packed
+pub mod Black
+pub mod Rows
+pub use Rattle.pbm_reader.specs.Page
+pub use Rattle.pbm_reader.specs.Given

@@ -1,0 +1,158 @@
+//! A page whose rows come one by one from the top.
+ghost use Rattle.std.specs.Prelude.{◌≡◌, ◌<◌, ◌≤◌, ℕ, OnOk, OnErr, IsTrue, ◌↔◌};
+ghost use Rattle.pbm_reader.specs.Page.{Page, IsPackedRow, IsPageSize};
+ghost use Rattle.page_runs.specs.Packed.{HasRow, Holds, IsWhole, page_of, rows_of};
+ghost use Rattle.page_runs.specs.Black.{black_of};
+ghost use Rattle.page_runs.specs.Rows.{Given, GivenPageIsHeld};
+
+use crate::black::black_in;
+use pbm_reader::{OutOfMemory, RowSink};
+use std::alloc::Global;
+use std::marker::Model;
+
+/// A page of black and white pixels, at most 8192 wide, 8192 high and 33,554,432 pixels in all.
+///
+/// It takes the rows from the top, as packed bytes: eight pixels a byte, the high bit leftmost, 1
+/// for black, as in Netpbm's raw PBM. It is whole once all of its rows are there.
+#[derive(Drop)]
+pub struct RunPage {
+    width: u16,
+    height: u16,
+    rows: u16,
+    bytes: Vec<u8>,
+    black: u64,
+}
+
+impl Model for RunPage {
+    ghost use Rattle.page_runs.specs.Packed.{Packed};
+    ghost use Rattle.page_runs.specs.Black.{IsPacked};
+
+    ghost Value = { Packed };
+
+    ghost view = { λ p. record { width = p.width; height = p.height; rows = p.rows; bytes = p.bytes.items } };
+
+    ghost invariant = { λ p. IsPacked (record { width = p.width; height = p.height; rows = p.rows; bytes = p.bytes.items }) p.black };
+}
+
+#[tactic(auto, unfolding(crate::specs::Packed::page_of, crate::specs::Packed::rows_of))]
+impl RunPage {
+    /// The page that was not begun: 0 pixels wide and high.
+    pub fn empty(alloc: Global) -> RunPage
+        ensures width { (page_of result).width ≡ 0 }
+        ensures height { (page_of result).height ≡ 0 }
+        ensures rows { rows_of result ≡ 0 }
+    {
+        RunPage {
+            width: 0,
+            height: 0,
+            rows: 0,
+            bytes: Vec::new(alloc),
+            black: 0,
+        }
+    }
+
+    /// The width in pixels.
+    pub fn width(&self) -> u16
+        ensures value { result ≡ (page_of self.now).width }
+        ensures unbegun { (page_of self.now).height ≡ 0 → result ≡ 0 }
+        ensures size { 0 < (page_of self.now).height → IsPageSize (page_of self.now).width (page_of self.now).height }
+    {
+        self.width
+    }
+
+    /// The height in pixels.
+    pub fn height(&self) -> u16
+        ensures value { result ≡ (page_of self.now).height }
+        ensures size { 0 < result → IsPageSize (page_of self.now).width (page_of self.now).height }
+    {
+        self.height
+    }
+
+    /// Whether all of the page's rows are there, and there is one.
+    pub fn is_whole(&self) -> bool
+        ensures { IsTrue result ↔ IsWhole self.now }
+    {
+        self.rows == self.height && self.height > 0
+    }
+
+    /// Whether the pixel in column x and row y is black.
+    pub fn is_black(&self, x: u16, y: u16) -> bool
+        requires whole { IsWhole self.now }
+        requires in_row { x < (page_of self.now).width }
+        requires in_column { y < (page_of self.now).height }
+        ensures { result ≡ (page_of self.now).is_black x y }
+    {
+        let at = usize::from(y) * ((usize::from(self.width) + 7) / 8) + usize::from(x) / 8;
+        (self.bytes[at] >> (7 - u32::from(x) % 8)) % 2 == 1
+    }
+
+    /// The packed bytes of a row that is there; what the padding bits are is not said.
+    pub fn packed_row(&self, y: u16) -> &[u8]
+        requires { y < rows_of self.now }
+        ensures { HasRow (page_of self.now) y result.now }
+    {
+        let len = (usize::from(self.width) + 7) / 8;
+        let at = usize::from(y) * len;
+        &self.bytes[at..at + len]
+    }
+
+    /// Adds the next row, as packed bytes, the padding bits behind the width clear. The one refusal
+    /// is want of memory.
+    pub fn push_row(&mut self, bits: &[u8]) -> Result<(), OutOfMemory>
+        requires more { rows_of self.old < (page_of self.old).height }
+        requires packed { IsPackedRow (page_of self.old).width bits.now }
+        ensures ok { OnOk result (Given self.old bits.now self.new) }
+        ensures err { OnErr result (self.new ≡ self.old) }
+    {
+        let black = black_in(bits, self.width);
+        self.bytes.extend_from_slice(bits)?;
+        self.rows += 1;
+        self.black += black;
+        Ok(())
+    }
+
+    /// The number of black pixels of the rows that are there.
+    pub fn black(&self) -> u64
+        ensures value { result ≡ black_of (page_of self.now) }
+        // The same is the number of black pixels of each page whose pixels these are.
+        ensures held { (page : Page) → Holds self.now page → result ≡ black_of page }
+    {
+        self.black
+    }
+}
+
+#[tactic(auto, unfolding(crate::specs::Packed::page_of, crate::specs::Packed::rows_of))]
+impl RowSink for RunPage {
+    ghost use Rattle.std.specs.Prelude.{◌≡◌, ◌-◌};
+    ghost use Rattle.page_runs.specs.Packed.{page_of, rows_of};
+    ghost use Rattle.page_runs.specs.Rows.{Begun, Given};
+
+    ghost width_of = { λ s. (page_of s).width };
+
+    ghost rows_left = { λ s. (page_of s).height - rows_of s };
+
+    ghost begun = { Begun };
+
+    ghost given = { Given };
+
+    ghost unchanged = { λ old new. new ≡ old };
+
+    fn begin(&mut self, width: u16, height: u16) -> Result<(), OutOfMemory> {
+        self.bytes.clear();
+        self.rows = 0;
+        self.black = 0;
+        self.width = width;
+        self.height = height;
+        Ok(())
+    }
+
+    fn row(&mut self, bits: &[u8]) -> Result<(), OutOfMemory> {
+        self.push_row(bits)
+    }
+}
+
+/// States a law, and does nothing: a `RunPage` that `begin` and `row` gave all rows of a page is
+/// whole, and holds that page.
+pub fn given_page_is_held()
+    ensures { GivenPageIsHeld }
+{}

@@ -1,0 +1,20 @@
+//! The order in which the lines of a page are read, by the two rules of Breuel (2003), and the areas that they form.
+#![tactic(auto)]
+
+mod areas;
+mod cycle;
+mod ends;
+mod front;
+mod order;
+mod reach;
+mod rows;
+mod rules;
+mod steps;
+mod sweep;
+mod table;
+#[cfg(test)]
+mod tests;
+
+pub use areas::areas_of;
+pub use layout_geom::OutOfMemory;
+pub use order::order_of;
