@@ -1,5 +1,5 @@
 -- The least rectangle round connected places.
-use Rattle.std.proofs.Common.{◌≤◌, ℕ, ◌+◌, ◌*◌, ◌-◌, inl, inr, arith}
+use Rattle.std.proofs.Common.{◌≡◌, ◌<◌, ◌≤◌, ℕ, ◌+◌, ◌*◌, ◌-◌, inl, inr, arith}
 use Rattle.std.proofs.lemmas.Bool.{cases_lt}
 use Rattle.std.proofs.Math.Nat.{mul-le-mul_right, mul-le-mul_left}
 use Rattle.page_runs.specs.Page.{Page, IsPageSize}
@@ -9,9 +9,23 @@ use Rattle.layout_geom.specs.Rectangles.{HasSides}
 use Rattle.components.specs.declared.place.Place.{Place}
 use Rattle.components.specs.declared.bounds.Bounds.{Bounds}
 use Rattle.components.specs.Connected.{IsConnected}
-use Rattle.components.specs.Around.{widened, HasPlace, IsTouched}
+use Rattle.components.specs.Around.{widened}
 use Rattle.components.specs.Boxes.{IsBoxOf}
 use Rattle.components.proofs.Paths.{at_end}
+
+-- the place lies within the sides
+pub record HasPlace (b : Bounds) (p : Place) : Type 0 where
+  pub from_left : b.x0 ≤ p.x
+  pub to_right : p.x < b.x1
+  pub from_top : b.y0 ≤ p.y
+  pub to_bottom : p.y < b.y1
+
+-- each side is touched by a place of the set
+pub record IsTouched (S : Place → Type 0) (b : Bounds) : Type 0 where
+  pub left : (p : Place) × S p × (p.x ≡ b.x0)
+  pub right : (p : Place) × S p × (p.x + 1 ≡ b.x1)
+  pub top : (p : Place) × S p × (p.y ≡ b.y0)
+  pub bottom : (p : Place) × S p × (p.y + 1 ≡ b.y1)
 
 pub within_wider : (bounds : Bounds) (place p : Place) → HasPlace bounds p → HasPlace (widened bounds place) p
 within_wider bounds place p has = record { from_left = omega (arith, has.from_left); to_right = omega (arith, has.to_right); from_top = omega (arith, has.from_top); to_bottom = omega (arith, has.to_bottom) }

@@ -10,10 +10,10 @@ use Rattle.components.specs.declared.place.Place.{Place}
 use Rattle.components.specs.declared.row_runs.Run.{Run}
 use Rattle.components.specs.declared.bounds.Bounds.{Bounds}
 use Rattle.components.specs.Connected.{IsBlack, IsConnected}
-use Rattle.components.specs.Around.{bounds_of, widened, HasPlace, IsTouched}
+use Rattle.components.specs.Around.{bounds_of, widened}
 use Rattle.components.specs.Runs.{IsIn, run_at, first_of, behind, AreRuns, IsTouching, IsMarkedRun, IsSeen, GrowsRuns, IsTouchingAt, SpreadsOver}
 use Rattle.components.proofs.Paths.{itself, onwards}
-use Rattle.components.proofs.Bounding.{still_touched, within_wider}
+use Rattle.components.proofs.Bounding.{HasPlace, IsTouched, still_touched, within_wider}
 use Rattle.components.proofs.Spreading.{IsWalking, IsStep, IsBlackRun, InRun, walks_on, walked, run_connected, touching_connected, near_touching}
 
 -- the place lies in a run that waits

@@ -136,7 +136,7 @@ fn box_of(bounds: Bounds) -> Rect
 }
 
 /// Marks the runs of the component that a run without a mark belongs to, and gives the component's
-/// box. The list of runs to visit takes 8 bytes for each run of the component at most.
+/// box. Each run waits at most once.
 pub(crate) fn flood(
     alloc: Global,
     page: &RunPage,

@@ -65,9 +65,9 @@ fn median_height(alloc: Global, boxes: &[Rect]) -> Result<u16, OutOfMemory>
 /// pixels leads from one to the other, each an 8-neighbour of the one before; a component is a class
 /// of connected pixels, and its box the least rectangle round it.
 ///
-/// Time grows with the bytes of the page and the number n of its maximal runs of black pixels, as
-/// n times the logarithm of the runs of a row; memory is at most 32 bytes for each run, and what
-/// sorting takes.
+/// Time grows with the bytes of the page, and with its runs of black pixels times the logarithm of
+/// the most runs of a row. Memory is taken for a list of the runs, a mark for each, a list of the
+/// runs of one component that are still to be visited, and for sorting.
 pub fn components(alloc: Global, page: &RunPage) -> Result<Kept, CompFault>
     requires { IsWhole page.now }
     // The page is each one whose pixels these are.

@@ -27,6 +27,7 @@ pub fn middle(rect: &Rect) -> u16
 }
 
 /// What a foot weighs that is this many rows from a line: 25 on it, and nothing from five rows on.
+/// It falls by the square, as in Breuel's search for baselines by least squares (2002).
 pub fn weight_at(deviation: u32) -> u32
     ensures value { result ≡ Points.weight_at deviation }
 {
