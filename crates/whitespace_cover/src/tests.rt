@@ -1,0 +1,129 @@
+//! Searches for white rectangles that were worked out by hand or by a plain program that lists them all.
+mod by_hand;
+mod plain;
+
+use crate::White;
+use box_search::{Alone, Noted, Searcher};
+use layout_geom::{OutOfMemory, Rect, Rects};
+use plain::{Sides, best_of_all, rank_of};
+use std::alloc::Global;
+use std::process::Abort;
+use std::test::Fail;
+
+// The key of the rectangle `3 0 16 16`, worked out by hand.
+pub(crate) const RIGHT: u64 = 114_349_209_264_115;
+
+fn rect_of(rt: &impl Abort, sides: Sides) -> Rect {
+    let (x0, y0, x1, y1) = sides;
+    match Rect::new(x0, y0, x1, y1) {
+        Some(rect) => rect,
+        None => panic!(rt; "no rectangle"),
+    }
+}
+
+/// The white rectangles of a page with these obstacles.
+pub(crate) fn white_of(
+    rt: &impl Abort,
+    alloc: Global,
+    page: Sides,
+    obstacles: &[Sides],
+    least: u16,
+) -> Result<White, OutOfMemory> {
+    let mut rects = Rects::new(alloc);
+    for &sides in obstacles {
+        rects.push(rect_of(rt, sides))?;
+    }
+    Ok(White::new(rect_of(rt, page), rects, least))
+}
+
+#[test]
+fn corner_block(rt: HostRuntime) -> Result<(), Fail> {
+    let white = white_of(&rt, rt.alloc(), (0, 0, 16, 16), &[(0, 0, 3, 3)], 8)?;
+    assert_eq!(rt; Alone.best(rt.alloc(), &(), &white)?, RIGHT);
+    let mut noted = Noted {
+        space: &white,
+        low: u64::MAX,
+    };
+    assert_eq!(rt; Alone.best_on(rt.alloc(), &mut noted)?, RIGHT);
+    assert!(rt; noted.low >= RIGHT);
+    Ok(())
+}
+
+#[test]
+fn page_below_the_least_size(rt: HostRuntime) -> Result<(), Fail> {
+    let white = white_of(&rt, rt.alloc(), (0, 0, 4, 4), &[], 8)?;
+    assert_eq!(rt; Alone.best(rt.alloc(), &(), &white)?, 0);
+    let mut noted = Noted {
+        space: &white,
+        low: u64::MAX,
+    };
+    assert_eq!(rt; Alone.best_on(rt.alloc(), &mut noted)?, 0);
+    assert_eq!(rt; noted.low, u64::MAX);
+    Ok(())
+}
+
+// A page, its obstacles, and the least size.
+const PAGES: [(Sides, &[Sides], u16); 12] = [
+    ((0, 0, 8, 8), &[], 1),
+    ((0, 0, 8, 8), &[], 8),
+    ((0, 0, 8, 7), &[], 8),
+    ((1, 2, 7, 5), &[], 3),
+    ((0, 0, 8, 8), &[(0, 0, 8, 8)], 1),
+    // The four sides of a block leave strips of one area.
+    ((0, 0, 8, 8), &[(3, 3, 5, 5)], 1),
+    ((0, 0, 8, 8), &[(3, 3, 5, 5)], 3),
+    ((0, 0, 8, 8), &[(3, 3, 5, 5)], 4),
+    // Obstacles that touch, that overlap, and that reach over the sides of the page.
+    ((0, 0, 8, 8), &[(2, 0, 4, 4), (4, 4, 6, 8)], 2),
+    ((0, 0, 8, 8), &[(1, 1, 5, 4), (3, 2, 7, 6), (3, 2, 7, 6)], 1),
+    ((2, 2, 6, 6), &[(0, 0, 3, 8), (5, 5, 20, 20)], 1),
+    ((2, 2, 6, 6), &[(0, 0, 2, 8), (6, 0, 8, 8)], 2),
+];
+
+/// Compares the search with the plain program.
+fn compare(
+    rt: &impl Abort,
+    alloc: Global,
+    page: Sides,
+    obstacles: &[Sides],
+    least: u16,
+) -> Result<(), OutOfMemory> {
+    let white = white_of(rt, alloc, page, obstacles, least)?;
+    let key = Alone.best(alloc, &(), &white)?;
+    let found = Rect::of_key(key).map(|r| (r.x0(), r.y0(), r.x1(), r.y1()));
+    let best = best_of_all(page, obstacles, least);
+    assert_eq!(rt; found.map(rank_of), best.map(rank_of), "{page:?} {least}");
+    assert_eq!(rt; key == 0, best.is_none(), "{page:?} {least}");
+    Ok(())
+}
+
+#[test]
+fn small_pages_by_hand(rt: HostRuntime) -> Result<(), Fail> {
+    for (page, obstacles, least) in PAGES {
+        compare(&rt, rt.alloc(), page, obstacles, least)?;
+    }
+    Ok(())
+}
+
+/// The next number of a fixed sequence that looks like chance.
+fn next_number(number: u64) -> u64 {
+    number
+        .wrapping_mul(6_364_136_223_846_793_005)
+        .wrapping_add(1_442_695_040_888_963_407)
+}
+
+#[test]
+fn small_pages_by_chance(rt: HostRuntime) -> Result<(), Fail> {
+    let mut number = 1;
+    for turn in 0..200 {
+        let mut obstacles: Vec<Sides> = Vec::new(rt.alloc());
+        for _ in 0..turn % 12 {
+            number = next_number(number);
+            let (x0, y0) = ((number >> 60) % 8, (number >> 52) % 8);
+            let (x1, y1) = (x0 + (number >> 44) % 3 + 1, y0 + (number >> 36) % 3 + 1);
+            obstacles.push((x0 as u16, y0 as u16, x1 as u16, y1 as u16))?;
+        }
+        compare(&rt, rt.alloc(), (0, 0, 8, 8), &obstacles, turn % 3 + 1)?;
+    }
+    Ok(())
+}
