@@ -1,7 +1,8 @@
 -- The document of a layout, line by line: HTML in the manner of hOCR 1.2.
 -- Each line ends with one line feed. A number is decimal, without leading zeros.
-use Rattle.std.specs.Prelude.{ℕ, List, [], ◌∷◌, codes, decimal}
+use Rattle.std.specs.Prelude.{ℕ, ◌+◌, List, [], ◌∷◌, codes, decimal}
 use Rattle.std.specs.List.{concat}
+use Rattle.layout_geom.specs.declared.rect.Rect.{Rect}
 use Rattle.hocr_writer.specs.declared.document.Layout.{Layout}
 
 -- The pieces of a line, or the lines of a text, one after another. It opens only where a proof
@@ -35,6 +36,45 @@ page_line layout =
     ∷ codes "'>\n"
     ∷ [])
 
+-- A half-open box: its first column and row, and the column and the row behind its last.
+abbrev pub box_text : Rect → List ℕ
+box_text box =
+    joined
+    (decimal box.x0
+    ∷ codes " "
+    ∷ decimal box.y0
+    ∷ codes " "
+    ∷ decimal box.x1
+    ∷ codes " "
+    ∷ decimal box.y1
+    ∷ [])
+
+-- An element of nothing but its box. Its `id` ends with the numbers of its page and of itself.
+abbrev pub box_line : List ℕ → ℕ → ℕ → Rect → List ℕ
+box_line opening page number box =
+    joined
+    (opening
+    ∷ decimal page
+    ∷ codes "_"
+    ∷ decimal number
+    ∷ codes "' title='bbox "
+    ∷ box_text box
+    ∷ codes "'></div>\n"
+    ∷ [])
+
+-- A white rectangle of the page, by its number and its box.
+abbrev pub white_line : ℕ → ℕ → Rect → List ℕ
+white_line page = box_line (codes "<div class='ocrx_whitespace' id='white_") page
+
+-- A gutter of the page, by its number and its box.
+abbrev pub gutter_line : ℕ → ℕ → Rect → List ℕ
+gutter_line page = box_line (codes "<div class='ocr_separator' id='gutter_") page
+
+-- A line for each box of a list, in its order. The first box has the number that is given.
+unfoldable pub box_lines : (ℕ → Rect → List ℕ) → ℕ → List Rect → List (List ℕ)
+box_lines line number [] = []
+box_lines line number (box ∷ rest) = line number box ∷ box_lines line (number + 1) rest
+
 -- The whole document. What is found on the page stands between the page's line and the `</div>`.
 unfoldable pub document : Layout → List ℕ
 document layout =
@@ -50,6 +90,8 @@ document layout =
     ∷ codes "</head>\n"
     ∷ codes "<body>\n"
     ∷ page_line layout
+    ∷ joined (box_lines (white_line layout.page) 0 layout.whites)
+    ∷ joined (box_lines (gutter_line layout.page) 0 layout.gutters)
     ∷ codes "</div>\n"
     ∷ codes "</body>\n"
     ∷ codes "</html>\n"

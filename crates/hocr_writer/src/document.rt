@@ -1,14 +1,16 @@
 //! The document of a layout.
 ghost use Rattle.std.specs.Prelude.{◌≡◌, ◌++◌, OnOk, IfOk};
-ghost use Rattle.hocr_writer.specs.Document.{order_line, page_line, document};
+ghost use Rattle.hocr_writer.specs.Document.{joined, order_line, page_line, box_lines, white_line, gutter_line, document};
 
+use crate::boxes::put_box_lines;
 use crate::text::Text;
+use layout_geom::Rects;
 use std::alloc::{AllocError as OutOfMemory, Global};
 
 /// What was found on a page: what its document tells.
 ///
 /// Any values are allowed: the document prints them as they are.
-#[derive(Debug, PartialEq, Eq, Drop)]
+#[derive(Drop)]
 pub struct Layout {
     /// The number of the page in its input, from 0. It is hOCR's `ppageno`, and stands in each `id`.
     pub page: u32,
@@ -19,6 +21,18 @@ pub struct Layout {
     /// How many pixels of the page are black. It is the property `x_black`, one of those with `x_`
     /// that hOCR leaves to each program.
     pub black: u64,
+    /// How many connected components of black pixels are kept: those that are no noise. The document
+    /// does not have it.
+    pub kept: u32,
+    /// The lower median of the heights of the kept components in pixels, or 0 where none is kept. The
+    /// document does not have it.
+    pub median: u16,
+    /// The white rectangles, in the order in which they were found. The k-th, from 0, is an element
+    /// `ocrx_whitespace`, with the `id` `white_` and the page's number, `_` and k.
+    pub whites: Rects,
+    /// The white rectangles that are gutters between columns of text. The k-th, from 0, is an element
+    /// `ocr_separator`, with the `id` `gutter_` and the page's number, `_` and k.
+    pub gutters: Rects,
 }
 
 // How the text lines of the page are ordered, behind the page's number.
@@ -49,8 +63,25 @@ fn put_page_line(text: &mut Text, layout: &Layout) -> Result<(), OutOfMemory>
     Ok(())
 }
 
+// A line for each white rectangle.
+fn put_whites(text: &mut Text, layout: &Layout) -> Result<(), OutOfMemory>
+    ensures grown { OnOk result (text.new ≡ text.old ++ joined (box_lines (white_line layout.now.page) 0 layout.now.whites)) }
+{
+    let opening = b"<div class='ocrx_whitespace' id='white_";
+    put_box_lines(text, opening, layout.page, layout.whites.as_slice())
+}
+
+// A line for each gutter.
+fn put_gutters(text: &mut Text, layout: &Layout) -> Result<(), OutOfMemory>
+    ensures grown { OnOk result (text.new ≡ text.old ++ joined (box_lines (gutter_line layout.now.page) 0 layout.now.gutters)) }
+{
+    let opening = b"<div class='ocr_separator' id='gutter_";
+    put_box_lines(text, opening, layout.page, layout.gutters.as_slice())
+}
+
 /// The document of a layout, in the manner of hOCR 1.2: an HTML file whose `ocr_page` element has
-/// the page's box, number and count of black pixels in its title.
+/// the page's box, number and count of black pixels in its title. In it stand the white rectangles,
+/// and then the gutters, each with its half-open `bbox` of pixels.
 ///
 /// The text is ASCII, and each of its lines ends with one line feed.
 ///
@@ -74,6 +105,8 @@ pub fn hocr_text(alloc: Global, layout: &Layout) -> Result<Vec<u8>, OutOfMemory>
     text.push(b"</head>\n")?;
     text.push(b"<body>\n")?;
     put_page_line(&mut text, layout)?;
+    put_whites(&mut text, layout)?;
+    put_gutters(&mut text, layout)?;
     text.push(b"</div>\n")?;
     text.push(b"</body>\n")?;
     text.push(b"</html>\n")?;

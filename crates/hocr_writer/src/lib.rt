@@ -1,6 +1,7 @@
 //! Writes the layout of a page as a document in the manner of hOCR 1.2.
 #![tactic(auto)]
 
+mod boxes;
 mod document;
 #[cfg(test)]
 mod tests;

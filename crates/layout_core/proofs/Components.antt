@@ -7,15 +7,14 @@ use Rattle.std.proofs.lemmas.List.Sorted.{length_permutation}
 use Rattle.pbm_reader.specs.Page.{Page}
 use Rattle.pbm_reader.specs.Spelling.{Spells}
 use Rattle.pbm_reader.specs.Left.{TookAll}
-use Rattle.components.specs.declared.kept.Kept.{Kept}
-use Rattle.components.specs.declared.kept.CompFault.{CompFault}
-use Rattle.components.specs.declared.kept.CompFault.TheVariants as faults
-use Rattle.components.specs.Kept.{IsKeptList, IsKeptCount, IsKeptOf, IsFaultOf, KeptIsUnique}
-use Rattle.page_runs.specs.Black.{black_of}
-use Rattle.hocr_writer.specs.declared.document.Layout.{Layout}
+use Rattle.layout_core.specs.declared.page_layout.CoreFault.{CoreFault}
+use Rattle.layout_core.specs.declared.page_layout.CoreFault.TheVariants as faults
+use Rattle.components.specs.Kept.{IsKeptList, IsKeptCount, IsKeptOf, KeptIsUnique}
 use Rattle.layout_core.specs.declared.refusal.Refusal.TheVariants as refusals
-use Rattle.layout_core.specs.Components.{refusal_of}
-use Rattle.layout_core.specs.Run.{layout_of, HasFewComponents, HasTooMany, ReadsWhole}
+use Rattle.hocr_writer.specs.declared.document.Layout.{Layout}
+use Rattle.layout_core.specs.Refused.{refusal_of}
+use Rattle.layout_core.specs.Layouts.{HasFewComponents, HasTooMany, IsLayout, IsCoreFault}
+use Rattle.layout_core.specs.Run.{ReadsWhole}
 use Rattle.layout_core.specs.Status.{IsWantOfMemory, RefusesLayout}
 
 -- a list of the kept boxes counts the kept components
@@ -50,34 +49,29 @@ same_page one old new input read page told r spells = one input read page (whole
 
 -- ---- a page whose components were not found
 
-pub refused_components : (old new : Option (List ℕ)) (read : Page) (fault : CompFault) → ReadsWhole old new read → IsFaultOf read fault → RefusesLayout old new (refusal_of fault)
-refused_components old new read (faults.TooMany count) r f = record { page = read; reads = r; too_many = record { counted = f.0; many = f.1 } }
+pub refused_components : (old new : Option (List ℕ)) (read : Page) (fault : CoreFault) → ReadsWhole old new read → IsCoreFault read fault → RefusesLayout old new (refusal_of fault)
+refused_components old new read (faults.TooMany count) r f = record { page = read; reads = r; too_many = f }
 refused_components old new read faults.Memory r f = tt
 
-pub few_components : KeptIsUnique → (read page : Page) (fault : CompFault) → read ≡ page → HasFewComponents page → IsFaultOf read fault → IsWantOfMemory (refusal_of fault)
+pub few_components : KeptIsUnique → (read page : Page) (fault : CoreFault) → read ≡ page → HasFewComponents page → IsCoreFault read fault → IsWantOfMemory (refusal_of fault)
 few_components unique read page (faults.TooMany count) same few f =
     let P : Page → Type 0 = λ p. HasTooMany p count in
-    absurd (few_or_many unique page count few (subst P same (record { counted = f.0; many = f.1 })))
+    absurd (few_or_many unique page count few (subst P same f))
 few_components unique read page faults.Memory same few f = inl refl
 
-pub many_components : KeptIsUnique → (read page : Page) (count : ℕ) (fault : CompFault) → read ≡ page → HasTooMany page count → IsFaultOf read fault
+pub many_components : KeptIsUnique → (read page : Page) (count : ℕ) (fault : CoreFault) → read ≡ page → HasTooMany page count → IsCoreFault read fault
     → (refusal_of fault ≡ refusals.TooMany count) ⊎ IsWantOfMemory (refusal_of fault)
 many_components unique read page count (faults.TooMany n) same many f =
     let P : Page → Type 0 = λ p. IsKeptCount p n in
-    inl (ap (λ (k : ℕ). refusals.TooMany k) ((unique page).one_count n count (subst P same f.0) many.counted))
+    inl (ap (λ (k : ℕ). refusals.TooMany k) ((unique page).one_count n count (subst P same f.counted) many.counted))
 many_components unique read page count faults.Memory same many f = inr (inl refl)
 
 -- ---- a page whose components were found
 
-pub few_of : (page : Page) (kept : Kept) → IsKeptOf page kept → HasFewComponents page
-few_of page kept k = record { boxes = kept.boxes; are_kept = k.boxes; few = k.few }
+pub few_of : (page : Page) (layout : Layout) → IsLayout page layout → HasFewComponents page
+few_of page layout l = record { boxes = l.kept.boxes; are_kept = (l.is_kept).boxes; few = (l.is_kept).few }
 
 pub not_many : KeptIsUnique → (read page : Page) (count : ℕ) → read ≡ page → HasFewComponents read → HasTooMany page count → ⊥
 not_many unique read page count same few many =
     let P : Page → Type 0 = λ p. HasFewComponents p in
     few_or_many unique page count (subst P same few) many
-
--- the layout of the page that was read
-pub layout_is : (page : Page) (width height black : ℕ) → page.width ≡ width → page.height ≡ height → black ≡ black_of page
-    → (let l : Layout = record { page = 0; width = width; height = height; black = black } in l) ≡ layout_of page
-layout_is page width height black w h b = cc

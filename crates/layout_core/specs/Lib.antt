@@ -1,5 +1,7 @@
 -- What a run makes of a page, and how it ends.
+pub mod Layouts
+pub mod Found
 pub mod Run
-pub mod Components
+pub mod Refused
 pub mod Line
 pub mod Status

@@ -1,45 +1,96 @@
-//! The layout of the page that a source spells.
-ghost use Rattle.std.specs.Prelude.{◌≡◌, ℕ, List, Some, IfOk, IfErr, IsOkUnless};
-ghost use Rattle.layout_outside.specs.Causes.{Rose};
-ghost use Rattle.pbm_reader.specs.declared.fault.PageFault.{PageFault};
-ghost use Rattle.pbm_reader.specs.Page.{Page};
-ghost use Rattle.pbm_reader.specs.Spelling.{Spells};
-ghost use Rattle.pbm_reader.specs.Fault.{HasFault};
-ghost use Rattle.layout_core.specs.Run.{HasFewComponents, HasTooMany, ReadsLayout};
-ghost use Rattle.layout_core.specs.Status.{AnswersRefusal, HasRefusalCause, IsWantOfMemory, RefusesLayout};
-ghost use Rattle.layout_core.specs.declared.refusal.Refusal.{Refusal};
+//! The layout of a page.
+ghost use Rattle.std.specs.Prelude.{IfOk, IfErr};
+ghost use Rattle.page_runs.specs.Page.{Page};
+ghost use Rattle.page_runs.specs.Packed.{Holds, IsWhole, page_of};
+ghost use Rattle.layout_geom.specs.Rectangles.{HasSides};
+ghost use Rattle.layout_core.specs.Layouts.{IsLayout, IsCoreFault};
 
-use crate::refusal::Refusal;
-use components::{components, kept_is_unique};
+use box_search::Searcher;
+use components::{CompFault, components};
+use gutters::gutters;
 use hocr_writer::Layout;
-use layout_outside::Source;
-use page_runs::{RunPage, given_page_is_held};
-use pbm_reader::{each_input_is_judged, read_page};
-use std::alloc::Global;
+use layout_geom::Rect;
+use page_runs::RunPage;
+use std::alloc::{AllocError, Global};
+use whitespace_cover::cover;
 
-/// Reads a page to the end of the input, and finds its layout.
-pub fn read_layout<S: Source>(alloc: Global, src: &mut S) -> Result<Layout, Refusal>
-    ensures layout { IfOk result (ReadsLayout (S.left src.old) (S.left src.new)) }
-    ensures refused { IfErr result (RefusesLayout (S.left src.old) (S.left src.new)) }
-    ensures cause { HasRefusalCause (S.faults src.old) (S.faults src.new) result }
-    ensures complete { (input : List ℕ) (page : Page) → S.left src.old ≡ Some input → Spells input page → HasFewComponents page
-        → ¬ Rose (S.faults src.old) (S.faults src.new) → IfErr result IsWantOfMemory }
-    ensures limit { (input : List ℕ) (page : Page) (count : ℕ) → S.left src.old ≡ Some input → Spells input page → HasTooMany page count
-        → ¬ Rose (S.faults src.old) (S.faults src.new) → AnswersRefusal (Refusal.TooMany count) result }
-    ensures faulty { (input : List ℕ) (fault : PageFault) → S.left src.old ≡ Some input → HasFault input fault
-        → ¬ Rose (S.faults src.old) (S.faults src.new) → AnswersRefusal (Refusal.Page fault) result }
+/// The least width and height of a white rectangle in pixels, where the median height is less.
+const LEAST_SIZE: u16 = 8;
+
+/// The most white rectangles of a page.
+const MOST_WHITES: u32 = 32;
+
+/// Why a page has no layout.
+#[derive(Debug, Clone, Copy, PartialEq, Eq, Drop)]
+pub enum CoreFault {
+    /// More than 60,000 components are kept, and so many.
+    TooMany { count: u32 },
+    /// Memory was refused.
+    Memory,
+}
+
+impl From<CompFault> for CoreFault {
+    ghost use Rattle.std.specs.Prelude.{◌≡◌};
+    ghost use Rattle.layout_core.specs.Found.{core_fault_of};
+
+    ghost from_gives = { λ fault core. core ≡ core_fault_of fault };
+
+    fn from(fault: CompFault) -> CoreFault {
+        match fault {
+            CompFault::TooMany { count } => CoreFault::TooMany { count },
+            CompFault::Memory => CoreFault::Memory,
+        }
+    }
+}
+
+impl From<AllocError> for CoreFault {
+    ghost use Rattle.std.specs.Prelude.{◌≡◌};
+    ghost use Rattle.layout_core.specs.declared.page_layout.CoreFault.TheVariants.{Memory};
+
+    ghost from_gives = { λ _ core. core ≡ Memory };
+
+    fn from(_: AllocError) -> CoreFault {
+        CoreFault::Memory
+    }
+}
+
+/// The rectangle of a whole page.
+fn page_rect(page: &RunPage) -> Rect
+    requires { IsWhole page.now }
+    ensures { HasSides result 0 0 (page_of page.now).width (page_of page.now).height }
 {
-    // The laws of the format, of a page that was read and of its components.
-    each_input_is_judged();
-    given_page_is_held();
-    kept_is_unique();
-    let mut page = RunPage::empty(alloc);
-    let size = read_page(alloc, src, &mut page)?;
-    let _kept = components(alloc, &page)?;
+    Rect::new(0, 0, page.width(), page.height()).unwrap()
+}
+
+/// The layout of a page, by any searcher: its black pixels, its kept components and their median height, the greedy
+/// cover of its white space (Breuel 2002) by at most 32 rectangles that are at least as wide and as high as the median
+/// height and as 8 pixels, and the gutters among them.
+///
+/// It refuses a page of which more than 60,000 components are kept, and for want of memory.
+pub fn layout_of<F: Searcher>(
+    alloc: Global,
+    run: &F::Run,
+    page: &RunPage,
+    searcher: &mut F,
+) -> Result<Layout, CoreFault>
+    requires { IsWhole page.now }
+    // The page is each one whose pixels these are.
+    ensures layout { (held : Page) → Holds page.now held → IfOk result (IsLayout held) }
+    ensures fault { (held : Page) → Holds page.now held → IfErr result (IsCoreFault held) }
+{
+    let kept = components(alloc, page)?;
+    let least = kept.median.max(LEAST_SIZE);
+    let whole = page_rect(page);
+    let whites = cover(alloc, run, whole, &kept.boxes, least, MOST_WHITES, searcher)?;
+    let gutters = gutters(alloc, &whites, &kept)?;
     Ok(Layout {
         page: 0,
-        width: size.width,
-        height: size.height,
+        width: page.width(),
+        height: page.height(),
         black: page.black(),
+        kept: kept.boxes.len() as u32,
+        median: kept.median,
+        whites,
+        gutters,
     })
 }

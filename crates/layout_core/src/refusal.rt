@@ -3,8 +3,8 @@ ghost use Rattle.std.specs.Prelude.{◌≡◌, ◌++◌, ◌≤◌, length, code
 ghost use Rattle.layout_core.specs.Line.{place_line, fault_line, line_of};
 ghost use Rattle.layout_core.specs.Status.{fault_status, status_of, WritesLine};
 
+use crate::page_layout::CoreFault;
 use arrayvec::ArrayString;
-use components::CompFault;
 use itoa::Buffer;
 use layout_outside::{Sink, put_all};
 use pbm_reader::PageFault;
@@ -38,16 +38,16 @@ impl From<PageFault> for Refusal {
     }
 }
 
-impl From<CompFault> for Refusal {
+impl From<CoreFault> for Refusal {
     ghost use Rattle.std.specs.Prelude.{◌≡◌};
-    ghost use Rattle.layout_core.specs.Components.{refusal_of};
+    ghost use Rattle.layout_core.specs.Refused.{refusal_of};
 
     ghost from_gives = { λ fault refusal. refusal ≡ refusal_of fault };
 
-    fn from(fault: CompFault) -> Refusal {
+    fn from(fault: CoreFault) -> Refusal {
         match fault {
-            CompFault::TooMany { count } => Refusal::TooMany { count },
-            CompFault::Memory => Refusal::Memory,
+            CoreFault::TooMany { count } => Refusal::TooMany { count },
+            CoreFault::Memory => Refusal::Memory,
         }
     }
 }

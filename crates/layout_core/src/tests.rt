@@ -54,6 +54,7 @@ const CORNER_BLOCK_DOCUMENT: &[u8] = b"\
 </head>\n\
 <body>\n\
 <div class='ocr_page' id='page_0' title='bbox 0 0 16 16; ppageno 0; x_black 9'>\n\
+<div class='ocrx_whitespace' id='white_0_0' title='bbox 3 0 16 16'></div>\n\
 </div>\n\
 </body>\n\
 </html>\n\
@@ -206,7 +207,7 @@ fn a_source_that_fails_at_each_call_in_turn(rt: HostRuntime) -> Result<(), Fail>
 
 #[test]
 fn a_sink_that_fails_at_each_call_in_turn(rt: HostRuntime) -> Result<(), Fail> {
-    for (piece, calls) in [(1, 369), (16, 24)] {
+    for (piece, calls) in [(1, 443), (16, 28)] {
         for call in 0..calls {
             let outcome = run(rt.alloc(), &[], CORNER_BLOCK, piece, &[], &[call])?;
             assert_eq!(rt; outcome.status, 6, "piece {piece}, call {call}");

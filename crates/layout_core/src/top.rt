@@ -5,12 +5,13 @@ ghost use Rattle.pbm_reader.specs.declared.fault.PageFault.{PageFault};
 ghost use Rattle.pbm_reader.specs.Page.{Page};
 ghost use Rattle.pbm_reader.specs.Spelling.{Spells};
 ghost use Rattle.pbm_reader.specs.Fault.{HasFault};
-ghost use Rattle.layout_core.specs.Run.{HasFewComponents, HasTooMany, WritesDocument, FrontOfDocument};
+ghost use Rattle.layout_core.specs.Layouts.{HasFewComponents, HasTooMany};
+ghost use Rattle.layout_core.specs.Run.{WritesDocument, FrontOfDocument};
 ghost use Rattle.layout_core.specs.Line.{line_of, fault_line};
 ghost use Rattle.layout_core.specs.Status.{HasPlan, IsStatus, WritesLine, RefusesPage, RefusesComponents, IsUndecided};
 ghost use Rattle.layout_core.specs.declared.refusal.Refusal.{Refusal};
 
-use crate::page_layout::read_layout;
+use crate::reading::read_layout;
 use crate::refusal::{Refusal, refuse};
 use hocr_writer::hocr_text;
 use layout_outside::{Sink, Source, put_all};

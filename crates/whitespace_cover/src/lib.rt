@@ -1,11 +1,14 @@
-//! The greatest white rectangle of a page: the problem as a space to be searched.
+//! The greatest white rectangle of a page, as a space to be searched, and the greedy cover of a page's
+//! white space by such rectangles.
 #![tactic(auto)]
 
+mod greedy;
 mod region;
 #[cfg(test)]
 mod tests;
 mod white;
 
+pub use greedy::cover;
 pub use layout_geom::OutOfMemory;
 pub use region::Region;
 pub use white::White;

@@ -1,5 +1,6 @@
 //! Searches for white rectangles that were worked out by hand or by a plain program that lists them all.
 mod by_hand;
+mod covers;
 mod plain;
 
 use crate::White;
@@ -21,6 +22,14 @@ fn rect_of(rt: &impl Abort, sides: Sides) -> Rect {
     }
 }
 
+fn rects_of(rt: &impl Abort, alloc: Global, all: &[Sides]) -> Result<Rects, OutOfMemory> {
+    let mut rects = Rects::new(alloc);
+    for &sides in all {
+        rects.push(rect_of(rt, sides))?;
+    }
+    Ok(rects)
+}
+
 /// The white rectangles of a page with these obstacles.
 pub(crate) fn white_of(
     rt: &impl Abort,
@@ -29,11 +38,8 @@ pub(crate) fn white_of(
     obstacles: &[Sides],
     least: u16,
 ) -> Result<White, OutOfMemory> {
-    let mut rects = Rects::new(alloc);
-    for &sides in obstacles {
-        rects.push(rect_of(rt, sides))?;
-    }
-    Ok(White::new(rect_of(rt, page), rects, least))
+    let obstacles = rects_of(rt, alloc, obstacles)?;
+    Ok(White::new(rect_of(rt, page), obstacles, least))
 }
 
 #[test]

@@ -38,6 +38,13 @@ impl White {
             least,
         }
     }
+
+    /// The obstacles, given back. It takes no memory.
+    pub fn into_obstacles(self) -> Rects
+        ensures same { result ≡ self.obstacles }
+    {
+        self.obstacles
+    }
 }
 
 impl Space for White {

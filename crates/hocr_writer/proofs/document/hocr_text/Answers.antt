@@ -18,7 +18,9 @@ returns c =
           grown_more _ _ _ _ _ c.in_ok-push-8.ensures.grown (
           grown_more _ _ _ _ _ c.in_ok-push-9.ensures.grown (
           grown_more _ _ _ _ _ c.in_ok-put_page_line.ensures.grown (
+          grown_more _ _ _ _ _ c.in_ok-put_whites.ensures.grown (
+          grown_more _ _ _ _ _ c.in_ok-put_gutters.ensures.grown (
           grown_more _ _ _ _ _ c.in_ok-push-10.ensures.grown (
           grown_more _ _ _ _ _ c.in_ok-push-11.ensures.grown (
-          grown_last _ _ _ c.in_ok-push-12.ensures.grown)))))))))))))) c.into_bytes.ensures.same;
+          grown_last _ _ _ c.in_ok-push-12.ensures.grown)))))))))))))))) c.into_bytes.ensures.same;
     }

@@ -1,0 +1,56 @@
+//! The lines of boxes: an empty element for each box of a list.
+ghost use Rattle.std.specs.Prelude.{◌≡◌, ◌++◌, OnOk};
+ghost use Rattle.hocr_writer.specs.Document.{joined, box_text, box_line, box_lines};
+
+use crate::text::Text;
+use layout_geom::Rect;
+use std::alloc::AllocError as OutOfMemory;
+
+// The sides of a box, as they stand behind hOCR's `bbox`.
+fn put_box(text: &mut Text, bbox: &Rect) -> Result<(), OutOfMemory>
+    ensures grown { OnOk result (text.new ≡ text.old ++ box_text bbox.now) }
+{
+    text.push_number(bbox.x0)?;
+    text.push(b" ")?;
+    text.push_number(bbox.y0)?;
+    text.push(b" ")?;
+    text.push_number(bbox.x1)?;
+    text.push(b" ")?;
+    text.push_number(bbox.y1)?;
+    Ok(())
+}
+
+// An element of nothing but its box. What it opens with ends in the front of its `id`.
+fn put_box_line(
+    text: &mut Text,
+    opening: &[u8],
+    page: u32,
+    number: usize,
+    bbox: &Rect,
+) -> Result<(), OutOfMemory>
+    ensures grown { OnOk result (text.new ≡ text.old ++ box_line opening.now page number bbox.now) }
+{
+    text.push(opening)?;
+    text.push_number(page)?;
+    text.push(b"_")?;
+    text.push_number(number)?;
+    text.push(b"' title='bbox ")?;
+    put_box(text, bbox)?;
+    text.push(b"'></div>\n")?;
+    Ok(())
+}
+
+/// A line for each box, in the order of the list and numbered from 0.
+pub fn put_box_lines(
+    text: &mut Text,
+    opening: &[u8],
+    page: u32,
+    boxes: &[Rect],
+) -> Result<(), OutOfMemory>
+    ensures grown { OnOk result (text.new ≡ text.old ++ joined (box_lines (box_line opening.now page) 0 boxes.now)) }
+{
+    for (number, bbox) in boxes.iter().enumerate() {
+        put_box_line(text, opening, page, number, bbox)?;
+    }
+    Ok(())
+}

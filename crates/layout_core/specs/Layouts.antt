@@ -1,0 +1,45 @@
+-- The layout of a page.
+use Rattle.std.specs.Prelude.{◌≡◌, ◌<◌, ◌≤◌, ⊤, ℕ, List, length, max}
+use Rattle.page_runs.specs.Page.{Page}
+use Rattle.page_runs.specs.Black.{black_of}
+use Rattle.layout_geom.specs.declared.rect.Rect.{Rect}
+use Rattle.layout_geom.specs.Rectangles.{HasSides}
+use Rattle.components.specs.declared.kept.Kept.{Kept}
+use Rattle.components.specs.Kept.{IsKeptOf, IsKeptList, IsKeptCount}
+use Rattle.whitespace_cover.specs.Cover.{IsCover}
+use Rattle.gutters.specs.Gutters.{gutters_of}
+use Rattle.hocr_writer.specs.declared.document.Layout.{Layout}
+use Rattle.layout_core.specs.declared.page_layout.CoreFault.{CoreFault}
+use Rattle.layout_core.specs.declared.page_layout.CoreFault.TheVariants as faults
+
+-- The layout of a page: its kept components, the greedy cover of its white space by at most 32 rectangles, each at least as wide and as high
+-- as the median height and as 8 pixels, and the gutters among them.
+pub record IsLayout (page : Page) (layout : Layout) : Type 0 where
+  pub kept : Kept
+  pub is_kept : IsKeptOf page kept
+  pub whole : Rect
+  pub sides : HasSides whole 0 0 page.width page.height
+  pub number_is : layout.page ≡ 0
+  pub width_is : layout.width ≡ page.width
+  pub height_is : layout.height ≡ page.height
+  pub black_is : layout.black ≡ black_of page
+  pub kept_is : layout.kept ≡ length kept.boxes
+  pub median_is : layout.median ≡ kept.median
+  pub cover : IsCover whole kept.boxes (max kept.median 8) 32 layout.whites
+  pub gutters_are : layout.gutters ≡ gutters_of kept layout.whites
+
+-- at most 60,000 components of the page are kept
+pub record HasFewComponents (page : Page) : Type 0 where
+  pub boxes : List Rect
+  pub are_kept : IsKeptList page boxes
+  pub few : length boxes ≤ 60000
+
+-- so many components of the page are kept, and that is more than 60,000
+pub record HasTooMany (page : Page) (count : ℕ) : Type 0 where
+  pub counted : IsKeptCount page count
+  pub many : 60000 < count
+
+-- why a page has no layout
+abbrev pub IsCoreFault : Page → CoreFault → Type 0
+IsCoreFault page (faults.TooMany count) = HasTooMany page count
+IsCoreFault page faults.Memory = ⊤

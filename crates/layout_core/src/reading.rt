@@ -1,0 +1,43 @@
+//! The layout of the page that a source spells.
+ghost use Rattle.std.specs.Prelude.{◌≡◌, ℕ, List, Some, IfOk, IfErr};
+ghost use Rattle.layout_outside.specs.Causes.{Rose};
+ghost use Rattle.pbm_reader.specs.declared.fault.PageFault.{PageFault};
+ghost use Rattle.pbm_reader.specs.Page.{Page};
+ghost use Rattle.pbm_reader.specs.Spelling.{Spells};
+ghost use Rattle.pbm_reader.specs.Fault.{HasFault};
+ghost use Rattle.layout_core.specs.Layouts.{HasFewComponents, HasTooMany};
+ghost use Rattle.layout_core.specs.Run.{ReadsLayout};
+ghost use Rattle.layout_core.specs.Status.{AnswersRefusal, HasRefusalCause, IsWantOfMemory, RefusesLayout};
+ghost use Rattle.layout_core.specs.declared.refusal.Refusal.{Refusal};
+
+use crate::page_layout::layout_of;
+use crate::refusal::Refusal;
+use box_search::Alone;
+use components::kept_is_unique;
+use hocr_writer::Layout;
+use layout_outside::Source;
+use page_runs::{RunPage, given_page_is_held};
+use pbm_reader::{each_input_is_judged, read_page};
+use std::alloc::Global;
+
+/// Reads a page to the end of the input, and finds its layout.
+pub fn read_layout<S: Source>(alloc: Global, src: &mut S) -> Result<Layout, Refusal>
+    ensures layout { IfOk result (ReadsLayout (S.left src.old) (S.left src.new)) }
+    ensures refused { IfErr result (RefusesLayout (S.left src.old) (S.left src.new)) }
+    ensures cause { HasRefusalCause (S.faults src.old) (S.faults src.new) result }
+    ensures complete { (input : List ℕ) (page : Page) → S.left src.old ≡ Some input → Spells input page → HasFewComponents page
+        → ¬ Rose (S.faults src.old) (S.faults src.new) → IfErr result IsWantOfMemory }
+    ensures limit { (input : List ℕ) (page : Page) (count : ℕ) → S.left src.old ≡ Some input → Spells input page → HasTooMany page count
+        → ¬ Rose (S.faults src.old) (S.faults src.new) → AnswersRefusal (Refusal.TooMany count) result }
+    ensures faulty { (input : List ℕ) (fault : PageFault) → S.left src.old ≡ Some input → HasFault input fault
+        → ¬ Rose (S.faults src.old) (S.faults src.new) → AnswersRefusal (Refusal.Page fault) result }
+{
+    // The laws of the format, of a page that was read and of its components.
+    each_input_is_judged();
+    given_page_is_held();
+    kept_is_unique();
+    let mut page = RunPage::empty(alloc);
+    let _size = read_page(alloc, src, &mut page)?;
+    let layout = layout_of(alloc, &(), &page, &mut Alone)?;
+    Ok(layout)
+}

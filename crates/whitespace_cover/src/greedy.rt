@@ -1,0 +1,55 @@
+//! The greedy cover of the white space of a page.
+ghost use Rattle.std.specs.Prelude.{◌≡◌, ◌≤◌, length, IfOk};
+ghost use Rattle.whitespace_cover.specs.Cover.{IsCover};
+
+use crate::white::White;
+use box_search::Searcher;
+use layout_geom::{OutOfMemory, Rect, Rects};
+use std::alloc::Global;
+
+/// The boxes, in a list of their own.
+fn copy_of(alloc: Global, boxes: &Rects) -> Result<Rects, OutOfMemory>
+    requires { length boxes.now ≤ 60000 }
+    ensures { IfOk result (λ copy. copy ≡ boxes.now) }
+{
+    let copy = Vec::from_slice(alloc, boxes.as_slice())?;
+    Ok(Rects::from_vec(copy))
+}
+
+/// The greedy cover of the white space of a page, after Breuel (2002): the greatest white rectangle
+/// clear of the boxes, then the greatest one clear of the boxes and of the first, and so on, until
+/// `count` are found or none is left.
+///
+/// Each rectangle lies in the page, shares no pixel with a box or with a rectangle before it, and is at
+/// least `least` columns wide and `least` rows high. Of rectangles of one area the upper, then the left,
+/// then the narrower is taken. `least` is at least 1, `count` at most 256, and there are at most 60,000
+/// boxes. Every search starts from the whole page. The one refusal is want of memory, after which it may
+/// be called again.
+pub fn cover<F: Searcher>(
+    alloc: Global,
+    run: &F::Run,
+    page: Rect,
+    boxes: &Rects,
+    least: u16,
+    count: u32,
+    searcher: &mut F,
+) -> Result<Rects, OutOfMemory>
+    requires least { 1 ≤ least }
+    requires count { count ≤ 256 }
+    requires boxes { length boxes.now ≤ 60000 }
+    ensures cover { IfOk result (IsCover page boxes.now least count) }
+{
+    let mut obstacles = copy_of(alloc, boxes)?;
+    let mut rects = Rects::new(alloc);
+    for _ in 0..count {
+        let white = White::new(page, obstacles, least);
+        let key = searcher.best(alloc, run, &white)?;
+        let Some(rect) = Rect::of_key(key) else {
+            return Ok(rects);
+        };
+        obstacles = white.into_obstacles();
+        obstacles.push(rect)?;
+        rects.push(rect)?;
+    }
+    Ok(rects)
+}

@@ -1,0 +1,100 @@
+//! Greedy covers that were worked out by hand.
+use super::plain::Sides;
+use super::{rect_of, rects_of};
+use crate::cover;
+use box_search::Alone;
+use std::test::Fail;
+
+/// A page with its boxes, and the rectangles of its cover in their order.
+#[derive(Clone, Copy)]
+struct Case {
+    page: Sides,
+    boxes: &'static [Sides],
+    least: u16,
+    count: u32,
+    rects: &'static [Sides],
+}
+
+const THREE_GLYPHS: [Sides; 3] = [(10, 10, 20, 20), (30, 10, 40, 20), (50, 10, 60, 20)];
+
+const CASES: [Case; 6] = [
+    // A block in the corner. Below it the rows are too few.
+    Case {
+        page: (0, 0, 16, 16),
+        boxes: &[(0, 0, 3, 3)],
+        least: 8,
+        count: 32,
+        rects: &[(3, 0, 16, 16)],
+    },
+    // The second rectangle touches the block and the first.
+    Case {
+        page: (0, 0, 40, 40),
+        boxes: &[(0, 0, 20, 20)],
+        least: 20,
+        count: 32,
+        rects: &[(20, 0, 40, 40), (0, 20, 20, 40)],
+    },
+    Case {
+        page: (0, 0, 100, 40),
+        boxes: &[(10, 10, 20, 20), (30, 10, 40, 20)],
+        least: 10,
+        count: 32,
+        rects: &[
+            (40, 0, 100, 40),
+            (0, 20, 40, 40),
+            (0, 0, 40, 10),
+            (0, 10, 10, 20),
+            (20, 10, 30, 20),
+        ],
+    },
+    Case {
+        page: (0, 0, 100, 40),
+        boxes: &THREE_GLYPHS,
+        least: 10,
+        count: 32,
+        rects: &[
+            (0, 20, 100, 40),
+            (0, 0, 100, 10),
+            (60, 10, 100, 20),
+            (0, 10, 10, 20),
+            (20, 10, 30, 20),
+            (40, 10, 50, 20),
+        ],
+    },
+    // The count ends a list that could go on.
+    Case {
+        page: (0, 0, 100, 40),
+        boxes: &THREE_GLYPHS,
+        least: 10,
+        count: 2,
+        rects: &[(0, 20, 100, 40), (0, 0, 100, 10)],
+    },
+    Case {
+        page: (0, 0, 100, 40),
+        boxes: &THREE_GLYPHS,
+        least: 10,
+        count: 0,
+        rects: &[],
+    },
+];
+
+#[test]
+fn covers_by_hand(rt: HostRuntime) -> Result<(), Fail> {
+    for case in CASES {
+        let page = rect_of(&rt, case.page);
+        let boxes = rects_of(&rt, rt.alloc(), case.boxes)?;
+        assert!(rt; 1 <= case.least && case.count <= 256 && boxes.len() <= 60_000);
+        let found = cover(
+            rt.alloc(),
+            &(),
+            page,
+            &boxes,
+            case.least,
+            case.count,
+            &mut Alone,
+        )?;
+        let expected = rects_of(&rt, rt.alloc(), case.rects)?;
+        assert_eq!(rt; found.as_slice(), expected.as_slice());
+    }
+    Ok(())
+}
