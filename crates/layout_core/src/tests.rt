@@ -60,6 +60,27 @@ const CORNER_BLOCK_DOCUMENT: &[u8] = b"\
 </html>\n\
 ";
 
+const BLANK_PAGE: &[u8] = b"P4\n16 16\n\
+\0\0\0\0\0\0\0\0\0\0\0\0\0\0\0\0\0\0\0\0\0\0\0\0\0\0\0\0\0\0\0\0";
+
+const BLANK_PAGE_DOCUMENT: &[u8] = b"\
+<!DOCTYPE html>\n\
+<html>\n\
+<head>\n\
+<title>layout</title>\n\
+<meta charset='utf-8'>\n\
+<meta name='ocr-system' content='layout'>\n\
+<meta name='ocr-capabilities' content='ocr_page ocr_carea ocr_line ocr_separator'>\n\
+<meta name='layout-order' content='0 topological'>\n\
+</head>\n\
+<body>\n\
+<div class='ocr_page' id='page_0' title='bbox 0 0 16 16; ppageno 0; x_black 0'>\n\
+<div class='ocrx_whitespace' id='white_0_0' title='bbox 0 0 16 16'></div>\n\
+</div>\n\
+</body>\n\
+</html>\n\
+";
+
 const PADDING_BITS_DOCUMENT: &[u8] = b"\
 <!DOCTYPE html>\n\
 <html>\n\
@@ -80,6 +101,7 @@ const PADDING_BITS_DOCUMENT: &[u8] = b"\
 #[test]
 fn pages_give_their_documents_in_any_pieces(rt: HostRuntime) -> Result<(), Fail> {
     let pages = [
+        (BLANK_PAGE, BLANK_PAGE_DOCUMENT),
         (CORNER_BLOCK, CORNER_BLOCK_DOCUMENT),
         (b"P4\n9 2\n\x00\x7f\x00\x7f", PADDING_BITS_DOCUMENT),
         (b"P4\n9 2\n\0\0\0\0", PADDING_BITS_DOCUMENT),
