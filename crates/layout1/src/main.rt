@@ -1,8 +1,13 @@
 //! Prints the layout of the page on the standard input.
 #![tactic(auto)]
 
+ghost use Rattle.std.specs.Prelude.{◌≡◌, ◌⊎◌, IfErr};
+ghost use Rattle.layout_core.specs.Run.{WritesDocument};
+ghost use Rattle.layout_core.specs.Status.{IsStatus};
+
 use layout_core::{Refusal, layout_alone, refuse};
-use layout_outside::{StdSink, StdSource};
+use layout_outside::{Sink, Source, StdSink, StdSource};
+use std::alloc::Global;
 use std::io::ErrorKind;
 use std::process::ExitCode;
 use std::{env, io};
@@ -14,14 +19,31 @@ fn words(rt: &HostRuntime) -> io::Result<Vec<String>> {
     Ok(args.collect(rt.alloc())?)
 }
 
+/// Runs with these words, and answers the status.
+fn run<S: Source, K: Sink, E: Sink>(
+    alloc: Global,
+    words: io::Result<Vec<String>>,
+    src: &mut S,
+    out: &mut K,
+    err: &mut E,
+) -> u8
+    ensures statuses { IsStatus result }
+    // The headline: a run with status 0 read the input to its end and wrote just the page's document.
+    ensures done { result ≡ 0 → WritesDocument (S.left src.old) (S.left src.new) (K.written out.old) (K.written out.new) }
+    // Where the words could not be read, the status is 2 or 7, and nothing is read or written to `out`.
+    ensures unreadable { IfErr words (λ _. ((result ≡ 2) ⊎ (result ≡ 7)) × (src.new ≡ src.old) × (out.new ≡ out.old)) }
+{
+    match words {
+        Ok(words) => layout_alone(alloc, &words, src, out, err),
+        Err(fault) if fault.kind() == ErrorKind::OutOfMemory => refuse(err, Refusal::Memory),
+        Err(_) => refuse(err, Refusal::Usage),
+    }
+}
+
 fn main(rt: HostRuntime) -> ExitCode {
     let mut src = StdSource::new(rt.stdin());
     let mut out = StdSink::new(rt.stdout());
     let mut err = StdSink::new(rt.stderr());
-    let status = match words(&rt) {
-        Ok(words) => layout_alone(rt.alloc(), &words, &mut src, &mut out, &mut err),
-        Err(fault) if fault.kind() == ErrorKind::OutOfMemory => refuse(&mut err, Refusal::Memory),
-        Err(_) => refuse(&mut err, Refusal::Usage),
-    };
-    ExitCode::from(status)
+    let words = words(&rt);
+    ExitCode::from(run(rt.alloc(), words, &mut src, &mut out, &mut err))
 }
