@@ -2,7 +2,7 @@
 use Rattle.std.proofs.Common.{ℕ, List, [], ◌∷◌, ◌++◌, ◌≡◌, append_assoc}
 use Rattle.std.proofs.lemmas.List.{append-nil}
 use Rattle.std.specs.List.{concat}
-use Rattle.hocr_writer.specs.Document.{joined}
+use Rattle.hocr_writer.specs.Pieces.{joined}
 
 -- A text that grew by a piece, and then by the rest, grew by the piece and the rest.
 pub grown_more : (front more now piece : List ℕ) (rest : List (List ℕ)) → more ≡ front ++ piece → now ≡ more ++ joined rest → now ≡ front ++ joined (piece ∷ rest)

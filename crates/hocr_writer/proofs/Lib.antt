@@ -1,2 +1,5 @@
 pub mod Joined
-pub mod Lines
+pub mod Growing
+pub mod Images
+pub mod Apart
+pub mod Wholes

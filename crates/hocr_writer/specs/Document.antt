@@ -1,31 +1,49 @@
 -- The document of a layout, line by line: HTML in the manner of hOCR 1.2.
 -- Each line ends with one line feed. A number is decimal, without leading zeros.
-use Rattle.std.specs.Prelude.{ℕ, ◌+◌, List, [], ◌∷◌, codes, decimal}
-use Rattle.std.specs.List.{concat}
+use Rattle.std.specs.Prelude.{ℕ, List, [], ◌∷◌, take, drop, codes, decimal}
 use Rattle.layout_geom.specs.declared.rect.Rect.{Rect}
-use Rattle.hocr_writer.specs.declared.document.Layout.{Layout}
+use Rattle.layout_geom.specs.declared.area.Area.{Area}
+use Rattle.layout_geom.specs.declared.order.Order.{Order}
+use Rattle.layout_geom.specs.declared.order.Order.TheVariants.{Topological, Cycle}
+use Rattle.hocr_writer.specs.declared.layout.Layout.{Layout}
+use Rattle.hocr_writer.specs.Pieces.{joined, numbered, box_front}
+use Rattle.hocr_writer.specs.Listing.{listing_of}
+use Rattle.hocr_writer.specs.Lines.{line_of}
 
--- The pieces of a line, or the lines of a text, one after another. It opens only where a proof
--- asks for it, so that no check computes a whole text.
-unfoldable pub joined : List (List ℕ) → List ℕ
-joined pieces = concat pieces
+-- The numbers of a cycle of lines, each behind a space.
+abbrev pub cycle_text : List ℕ → List ℕ
+cycle_text cycle = joined (codes "cycle" ∷ joined (numbered (λ place line. joined (codes " " ∷ decimal line ∷ [])) 0 cycle) ∷ [])
 
--- How the text lines of the page are ordered, behind the page's number.
+-- How the text lines of the page are ordered: whether there is an order, or else a cycle that forbids it.
+abbrev pub order_text : Order → List ℕ
+order_text (Topological order) = codes "topological"
+order_text (Cycle cycle) = cycle_text cycle
+
+-- The same, behind the page's number.
 abbrev pub order_line : Layout → List ℕ
 order_line layout =
     joined
     (codes "<meta name='layout-order' content='"
     ∷ decimal layout.page
-    ∷ codes " topological'>\n"
+    ∷ codes " "
+    ∷ order_text layout.order
+    ∷ codes "'>\n"
     ∷ [])
 
--- The page's element begins. Its title has the page's box, number and count of black pixels.
+-- The name of the page's image, where it has one.
+abbrev pub image_text : List ℕ → List ℕ
+image_text [] = []
+image_text (byte ∷ bytes) = joined (codes "image \"" ∷ (byte ∷ bytes) ∷ codes "\"; " ∷ [])
+
+-- The page's element begins. Its title has the name of its image, its box, number and count of black pixels.
 abbrev pub page_line : Layout → List ℕ
 page_line layout =
     joined
     (codes "<div class='ocr_page' id='page_"
     ∷ decimal layout.page
-    ∷ codes "' title='bbox 0 0 "
+    ∷ codes "' title='"
+    ∷ image_text layout.image
+    ∷ codes "bbox 0 0 "
     ∷ decimal layout.width
     ∷ codes " "
     ∷ decimal layout.height
@@ -36,31 +54,9 @@ page_line layout =
     ∷ codes "'>\n"
     ∷ [])
 
--- A half-open box: its first column and row, and the column and the row behind its last.
-abbrev pub box_text : Rect → List ℕ
-box_text box =
-    joined
-    (decimal box.x0
-    ∷ codes " "
-    ∷ decimal box.y0
-    ∷ codes " "
-    ∷ decimal box.x1
-    ∷ codes " "
-    ∷ decimal box.y1
-    ∷ [])
-
--- An element of nothing but its box. Its `id` ends with the numbers of its page and of itself.
+-- An element of nothing but its box.
 abbrev pub box_line : List ℕ → ℕ → ℕ → Rect → List ℕ
-box_line opening page number box =
-    joined
-    (opening
-    ∷ decimal page
-    ∷ codes "_"
-    ∷ decimal number
-    ∷ codes "' title='bbox "
-    ∷ box_text box
-    ∷ codes "'></div>\n"
-    ∷ [])
+box_line opening page number box = joined (box_front opening page number box ∷ codes "'></div>\n" ∷ [])
 
 -- A white rectangle of the page, by its number and its box.
 abbrev pub white_line : ℕ → ℕ → Rect → List ℕ
@@ -70,14 +66,26 @@ white_line page = box_line (codes "<div class='ocrx_whitespace' id='white_") pag
 abbrev pub gutter_line : ℕ → ℕ → Rect → List ℕ
 gutter_line page = box_line (codes "<div class='ocr_separator' id='gutter_") page
 
--- A line for each box of a list, in its order. The first box has the number that is given.
-unfoldable pub box_lines : (ℕ → Rect → List ℕ) → ℕ → List Rect → List (List ℕ)
-box_lines line number [] = []
-box_lines line number (box ∷ rest) = line number box ∷ box_lines line (number + 1) rest
+-- An area begins, by its number and its box.
+abbrev pub area_line : ℕ → ℕ → Rect → List ℕ
+area_line page number box = joined (box_front (codes "<div class='ocr_carea' id='area_") page number box ∷ codes "'>\n" ∷ [])
 
--- The whole document. What is found on the page stands between the page's line and the `</div>`.
-unfoldable pub document : Layout → List ℕ
-document layout =
+-- The numbers of the lines of an area, in the order of the listing.
+abbrev pub lines_in : Layout → Area → List ℕ
+lines_in layout area = take area.count (drop area.first (listing_of layout))
+
+-- A whole area: where it begins, its lines in the order of the listing, and where it ends.
+abbrev pub area_text : Layout → ℕ → Area → List ℕ
+area_text layout number area =
+    joined
+    (area_line layout.page number area.bbox
+    ∷ joined (numbered (λ place line. line_of layout line) 0 (lines_in layout area))
+    ∷ codes "</div>\n"
+    ∷ [])
+
+-- The whole document. What is found on the page stands between the page's line and the last `</div>`.
+unfoldable pub document_of : Layout → List ℕ
+document_of layout =
     joined
     (codes "<!DOCTYPE html>\n"
     ∷ codes "<html>\n"
@@ -90,8 +98,9 @@ document layout =
     ∷ codes "</head>\n"
     ∷ codes "<body>\n"
     ∷ page_line layout
-    ∷ joined (box_lines (white_line layout.page) 0 layout.whites)
-    ∷ joined (box_lines (gutter_line layout.page) 0 layout.gutters)
+    ∷ joined (numbered (white_line layout.page) 0 layout.whites)
+    ∷ joined (numbered (gutter_line layout.page) 0 layout.gutters)
+    ∷ joined (numbered (area_text layout) 0 layout.areas)
     ∷ codes "</div>\n"
     ∷ codes "</body>\n"
     ∷ codes "</html>\n"

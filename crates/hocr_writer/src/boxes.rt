@@ -1,6 +1,7 @@
 //! The lines of boxes: an empty element for each box of a list.
 ghost use Rattle.std.specs.Prelude.{◌≡◌, ◌++◌, OnOk};
-ghost use Rattle.hocr_writer.specs.Document.{joined, box_text, box_line, box_lines};
+ghost use Rattle.hocr_writer.specs.Pieces.{joined, numbered, box_text, box_front};
+ghost use Rattle.hocr_writer.specs.Document.{box_line};
 
 use crate::text::Text;
 use layout_geom::Rect;
@@ -20,7 +21,26 @@ fn put_box(text: &mut Text, bbox: &Rect) -> Result<(), OutOfMemory>
     Ok(())
 }
 
-// An element of nothing but its box. What it opens with ends in the front of its `id`.
+/// The front of an element, up to its box. What it opens with ends in the front of its `id`.
+pub fn put_box_front(
+    text: &mut Text,
+    opening: &[u8],
+    page: u32,
+    number: usize,
+    bbox: &Rect,
+) -> Result<(), OutOfMemory>
+    ensures grown { OnOk result (text.new ≡ text.old ++ box_front opening.now page number bbox.now) }
+{
+    text.push(opening)?;
+    text.push_number(page)?;
+    text.push(b"_")?;
+    text.push_number(number)?;
+    text.push(b"' title='bbox ")?;
+    put_box(text, bbox)?;
+    Ok(())
+}
+
+// An element of nothing but its box.
 fn put_box_line(
     text: &mut Text,
     opening: &[u8],
@@ -30,12 +50,7 @@ fn put_box_line(
 ) -> Result<(), OutOfMemory>
     ensures grown { OnOk result (text.new ≡ text.old ++ box_line opening.now page number bbox.now) }
 {
-    text.push(opening)?;
-    text.push_number(page)?;
-    text.push(b"_")?;
-    text.push_number(number)?;
-    text.push(b"' title='bbox ")?;
-    put_box(text, bbox)?;
+    put_box_front(text, opening, page, number, bbox)?;
     text.push(b"'></div>\n")?;
     Ok(())
 }
@@ -47,7 +62,7 @@ pub fn put_box_lines(
     page: u32,
     boxes: &[Rect],
 ) -> Result<(), OutOfMemory>
-    ensures grown { OnOk result (text.new ≡ text.old ++ joined (box_lines (box_line opening.now page) 0 boxes.now)) }
+    ensures grown { OnOk result (text.new ≡ text.old ++ joined (numbered (box_line opening.now page) 0 boxes.now)) }
 {
     for (number, bbox) in boxes.iter().enumerate() {
         put_box_line(text, opening, page, number, bbox)?;

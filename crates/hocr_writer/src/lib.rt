@@ -1,11 +1,17 @@
 //! Writes the layout of a page as a document in the manner of hOCR 1.2.
 #![tactic(auto)]
 
+mod areas;
 mod boxes;
 mod document;
+mod layout;
+mod lines;
+mod order;
 #[cfg(test)]
 mod tests;
 mod text;
+mod whole;
 
-pub use document::{Layout, hocr_text};
+pub use document::hocr_text;
+pub use layout::{Layout, Mark, Marks};
 pub use std::alloc::AllocError as OutOfMemory;

@@ -8,12 +8,14 @@ returns c =
           grown_more _ _ _ _ _ c.in_ok-push.ensures.grown (
           grown_more _ _ _ _ _ c.in_ok-push_number.ensures.grown (
           grown_more _ _ _ _ _ c.in_ok-push-2.ensures.grown (
-          grown_more _ _ _ _ _ c.in_ok-push_number-2.ensures.grown (
+          grown_more _ _ _ _ _ c.in_ok-put_image.ensures.grown (
           grown_more _ _ _ _ _ c.in_ok-push-3.ensures.grown (
-          grown_more _ _ _ _ _ c.in_ok-push_number-3.ensures.grown (
+          grown_more _ _ _ _ _ c.in_ok-push_number-2.ensures.grown (
           grown_more _ _ _ _ _ c.in_ok-push-4.ensures.grown (
-          grown_more _ _ _ _ _ c.in_ok-push_number-4.ensures.grown (
+          grown_more _ _ _ _ _ c.in_ok-push_number-3.ensures.grown (
           grown_more _ _ _ _ _ c.in_ok-push-5.ensures.grown (
+          grown_more _ _ _ _ _ c.in_ok-push_number-4.ensures.grown (
+          grown_more _ _ _ _ _ c.in_ok-push-6.ensures.grown (
           grown_more _ _ _ _ _ c.in_ok-push_number-5.ensures.grown (
-          grown_last _ _ _ c.in_ok-push-6.ensures.grown))))))))));
+          grown_last _ _ _ c.in_ok-push-7.ensures.grown))))))))))));
     }

@@ -1,0 +1,45 @@
+-- The element of a text line: its box and its baseline.
+use Rattle.std.specs.Prelude.{ℕ, ◌+◌, ◌/◌, ◌%◌, ℤ, pos, negsuc, ◌-ℤ◌, unsigned_abs, List, [], ◌∷◌, Option, Some, None, codes}
+use Rattle.std.specs.List.{slice_get}
+use Rattle.std.specs.Fmt.{signed_decimal}
+use Rattle.line_quality.specs.Points.{height_at}
+use Rattle.hocr_writer.specs.declared.layout.Layout.{Layout}
+use Rattle.hocr_writer.specs.declared.layout.Mark.{Mark}
+use Rattle.hocr_writer.specs.Pieces.{joined, box_front}
+
+-- A number below 1000 in three digits.
+abbrev pub three_digits : ℕ → List ℕ
+three_digits number = (48 + number / 100) ∷ (48 + number / 10 % 10) ∷ (48 + number % 10) ∷ []
+
+abbrev pub sign_text : ℤ → List ℕ
+sign_text (pos steps) = []
+sign_text (negsuc steps) = codes "-"
+
+-- The slope of a line, from its thousandths, with three decimals.
+abbrev pub slope_text : ℤ → List ℕ
+slope_text slope = joined (sign_text slope ∷ codes "0." ∷ three_digits (unsigned_abs slope) ∷ [])
+
+-- How far below the bottom edge of its box the baseline begins, at the box's left edge. It is
+-- negative where the baseline begins above that edge.
+abbrev pub constant_of : Mark → ℤ
+constant_of mark = height_at mark.slope mark.offset mark.bbox.x0 -ℤ pos mark.bbox.y1
+
+-- A text line, by its number.
+abbrev pub mark_line : ℕ → ℕ → Mark → List ℕ
+mark_line page number mark =
+    joined
+    (box_front (codes "<span class='ocr_line' id='line_") page number mark.bbox
+    ∷ codes "; baseline "
+    ∷ slope_text mark.slope
+    ∷ codes " "
+    ∷ signed_decimal (constant_of mark)
+    ∷ codes "'></span>\n"
+    ∷ [])
+
+-- The line of this number of a layout, where it has one.
+abbrev pub line_text : ℕ → ℕ → Option Mark → List ℕ
+line_text page number (Some mark) = mark_line page number mark
+line_text page number None = []
+
+abbrev pub line_of : Layout → ℕ → List ℕ
+line_of layout number = line_text layout.page number (slice_get layout.lines number)

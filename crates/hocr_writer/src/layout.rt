@@ -1,0 +1,53 @@
+//! What was found on a page: what its document tells.
+use layout_geom::{Areas, Items, Name, Order, Rect, Rects};
+
+/// A text line as the document shows it.
+#[derive(Clone, Copy, Debug, PartialEq, Eq)]
+pub struct Mark {
+    /// The least rectangle round the boxes of the line: its `bbox`, in pixels.
+    pub bbox: Rect,
+    /// The slope of its baseline in thousandths, from -32 to 32. It sinks to the right where it is positive.
+    pub slope: i8,
+    /// The height of its baseline at the left edge of the page, in rows from the top: from -300 to
+    /// 300 below the foot of the highest page.
+    pub offset: i16,
+}
+
+/// Text lines, each named by its place.
+pub type Marks = Items<Mark>;
+
+/// What was found on a page: what its document tells.
+#[derive(Drop)]
+pub struct Layout {
+    /// The number of the page in its input, from 0. It is hOCR's `ppageno`, and stands in each `id`.
+    pub page: u32,
+    /// The width of the page in pixels: the right end of its `bbox`, which begins at 0.
+    pub width: u16,
+    /// The height of the page in pixels: the lower end of its `bbox`, which begins at 0.
+    pub height: u16,
+    /// How many pixels of the page are black. It is the property `x_black`, one of those with `x_`
+    /// that hOCR leaves to each program.
+    pub black: u64,
+    /// How many connected components of black pixels are kept: those that are no noise. The document
+    /// does not have it.
+    pub kept: u32,
+    /// The lower median of the heights of the kept components in pixels, or 0 where none is kept. The
+    /// document does not have it.
+    pub median: u16,
+    /// The name of the page's image, hOCR's property `image`, or no byte where it has none.
+    pub image: Name,
+    /// The white rectangles, in the order in which they were found. The k-th, from 0, is an element
+    /// `ocrx_whitespace`, with the `id` `white_` and the page's number, `_` and k.
+    pub whites: Rects,
+    /// The white rectangles that are gutters between columns of text. The k-th, from 0, is an element
+    /// `ocr_separator`, with the `id` `gutter_` and the page's number, `_` and k.
+    pub gutters: Rects,
+    /// The text lines, by their numbers. The one of number n is an element `ocr_line`, with the `id`
+    /// `line_` and the page's number, `_` and n.
+    pub lines: Marks,
+    /// The order in which the lines are read, or a cycle that forbids it.
+    pub order: Order,
+    /// The areas that the listing of the lines falls into. The k-th, from 0, is an element
+    /// `ocr_carea`, with the `id` `area_` and the page's number, `_` and k. Its lines stand in it.
+    pub areas: Areas,
+}

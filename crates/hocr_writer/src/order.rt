@@ -1,0 +1,51 @@
+//! The line that says how the text lines of a page are ordered.
+ghost use Rattle.std.specs.Prelude.{◌≡◌, ◌++◌, ◌∷◌, [], codes, decimal, OnOk};
+ghost use Rattle.hocr_writer.specs.Pieces.{joined, numbered};
+ghost use Rattle.hocr_writer.specs.Document.{cycle_text, order_text, order_line};
+
+use crate::layout::Layout;
+use crate::text::Text;
+use layout_geom::{Numbers, Order};
+use std::alloc::AllocError as OutOfMemory;
+
+// The numbers of a cycle, each behind a space.
+fn put_numbers(text: &mut Text, numbers: &[u32]) -> Result<(), OutOfMemory>
+    ensures grown { OnOk result (text.new ≡ text.old ++ joined (numbered (λ place line. joined (codes " " ∷ decimal line ∷ [])) 0 numbers.now)) }
+{
+    for number in numbers {
+        text.push(b" ")?;
+        text.push_number(*number)?;
+    }
+    Ok(())
+}
+
+// A cycle of lines.
+fn put_cycle(text: &mut Text, cycle: &Numbers) -> Result<(), OutOfMemory>
+    ensures grown { OnOk result (text.new ≡ text.old ++ cycle_text cycle.now) }
+{
+    text.push(b"cycle")?;
+    put_numbers(text, cycle.as_slice())?;
+    Ok(())
+}
+
+// Whether there is an order of the lines, or else the cycle that forbids it.
+fn put_order(text: &mut Text, order: &Order) -> Result<(), OutOfMemory>
+    ensures grown { OnOk result (text.new ≡ text.old ++ order_text order.now) }
+{
+    match order {
+        Order::Topological(_) => text.push(b"topological"),
+        Order::Cycle(cycle) => put_cycle(text, cycle),
+    }
+}
+
+/// How the text lines of the page are ordered, behind the page's number.
+pub fn put_order_line(text: &mut Text, layout: &Layout) -> Result<(), OutOfMemory>
+    ensures grown { OnOk result (text.new ≡ text.old ++ order_line layout.now) }
+{
+    text.push(b"<meta name='layout-order' content='")?;
+    text.push_number(layout.page)?;
+    text.push(b" ")?;
+    put_order(text, &layout.order)?;
+    text.push(b"'>\n")?;
+    Ok(())
+}

@@ -1,0 +1,82 @@
+//! Which layouts can be written.
+ghost use Rattle.std.specs.Prelude.{◌≡◌, ◌<◌, ℕ, All, length, slice_index, IsTrue, ◌↔◌};
+ghost use Rattle.hocr_writer.specs.Listing.{NamesLines, SplitListing, IsMark, IsWhole, HasEachOnce};
+
+use crate::layout::{Layout, Mark};
+use layout_geom::{Area, Order};
+
+/// Whether all numbers are below a count.
+fn are_below(numbers: &[u32], count: usize) -> bool
+    ensures { IsTrue result ↔ All (λ number. number < count) numbers.now }
+{
+    numbers.iter().all(|number| (*number as usize) < count)
+}
+
+/// Whether a number is none of others.
+fn is_apart(number: u32, others: &[u32]) -> bool
+    ensures { IsTrue result ↔ All (λ other. other ≡ number → ⊥) others.now }
+{
+    others.iter().all(|other| *other != number)
+}
+
+/// Whether no two numbers are equal.
+fn are_apart(numbers: &[u32]) -> bool
+    ensures { IsTrue result ↔ ((i j : ℕ) → i < j → j < length numbers.now → slice_index numbers.now i ≡ slice_index numbers.now j → ⊥) }
+{
+    for (place, number) in numbers.iter().enumerate() {
+        if !is_apart(*number, &numbers[place + 1..]) {
+            return false;
+        }
+    }
+    true
+}
+
+/// Whether an order has each of so many lines once, or a cycle none but these.
+fn names_lines(order: &Order, count: usize) -> bool
+    ensures { IsTrue result ↔ NamesLines order.now count }
+{
+    match order {
+        Order::Topological(numbers) => {
+            let numbers = numbers.as_slice();
+            numbers.len() == count && are_below(numbers, count) && are_apart(numbers)
+        }
+        Order::Cycle(numbers) => are_below(numbers.as_slice(), count),
+    }
+}
+
+/// Whether the areas split a listing of so many lines from its front to its end.
+fn split_listing(areas: &[Area], count: usize) -> bool
+    ensures { IsTrue result ↔ SplitListing 0 count areas.now }
+{
+    let mut end = 0;
+    for area in areas {
+        if area.first as usize != end {
+            return false;
+        }
+        end = area.first as usize + area.count as usize;
+    }
+    end == count
+}
+
+/// Whether the slope and the offset of a line are those of a grid.
+fn is_mark(mark: &Mark) -> bool
+    ensures { IsTrue result ↔ IsMark mark.now }
+{
+    -32 <= mark.slope && mark.slope <= 32 && -300 <= mark.offset && mark.offset <= 8492
+}
+
+impl Layout {
+    /// Whether the layout can be written: its order has each line once, or its cycle none but the
+    /// lines; its areas split the listing from its front to its end without a gap; and each slope is
+    /// from -32 to 32, each offset from -300 to 8492.
+    ///
+    /// Time grows with the square of the number of lines. It takes no memory.
+    pub fn is_whole(&self) -> bool
+        ensures { IsTrue result ↔ IsWhole self.now }
+    {
+        let count = self.lines.len();
+        names_lines(&self.order, count)
+            && split_listing(self.areas.as_slice(), count)
+            && self.lines.as_slice().iter().all(is_mark)
+    }
+}
