@@ -1,0 +1,93 @@
+-- The positions of the boxes that can weigh something for the lines of a shape.
+use Rattle.std.proofs.Common.{◌≡◌, ℕ, ◌+◌, ◌<◌, ◌≤◌, ℤ, Bool, true, false, cond, ◌&&◌, eqb, ltb, List, [], ◌∷◌, length, Option, Some, None, slice_get, arith, refl, sym, ◌∙◌, ap, All}
+use Rattle.std.specs.List.{filter, sum_by}
+use Rattle.std.proofs.lemmas.List.Sums.{sum_by-cons}
+use Rattle.std.proofs.lemmas.List.Elements.{All-filter}
+use Rattle.std.proofs.lemmas.List.Filters.{length-filter_both}
+use Rattle.std.proofs.lemmas.Bool.Decides.{nat_tests}
+use Rattle.layout_geom.specs.declared.rect.Rect.{Rect}
+use Rattle.box_search.specs.declared.space.Shape.{Shape}
+use Rattle.line_quality.specs.Points.{weight, middle_of, column_of}
+use Rattle.line_quality.specs.Scores.{weight_of, is_of, group_of}
+use Rattle.line_search.specs.Problem.{Problem}
+use Rattle.line_search.specs.Shapes.{IsInside}
+use Rattle.line_search.specs.Bounds.{reach, reaching, total_reach, HasReaching}
+use Rattle.line_search.proofs.Heights.{weight_below, reach_shrinks, HasCorners}
+use Rattle.std.proofs.Common.{not}
+
+inner_first : (p : ℕ → Bool) (x : ℕ) (ys zs : List ℕ) (b c : Bool) → p x ≡ b → (b ≡ true → c ≡ true) → filter p ys ≡ zs → filter p (cond c (x ∷ ys) ys) ≡ cond b (x ∷ zs) zs
+inner_first p x ys zs true true is stricter same = rw (is, same) refl
+inner_first p x ys zs true false is stricter same = absurd (let no : false ≡ true = stricter refl in cc)
+inner_first p x ys zs false true is stricter same = rw (is, same) refl
+inner_first p x ys zs false false is stricter same = same
+
+-- a stricter test keeps of the kept what it keeps of all
+pub filter_twice : (p q : ℕ → Bool) → ((x : ℕ) → p x ≡ true → q x ≡ true) → (xs : List ℕ) → filter p (filter q xs) ≡ filter p xs
+filter_twice p q stricter [] = refl
+filter_twice p q stricter (x ∷ xs) = inner_first p x (filter q xs) (filter p xs) (p x) (q x) refl (stricter x) (filter_twice p q stricter xs)
+
+some_first : (f : ℕ → ℕ) (x : ℕ) (ys : List ℕ) (b : Bool) → ltb 0 (f x) ≡ b → sum_by f (cond b (x ∷ ys) ys) ≡ f x + sum_by f ys
+some_first f x ys true is = sum_by-cons f x ys
+some_first f x ys false is = let none : f x ≡ 0 = grind (arith, nat_tests) in omega arith
+
+-- what weighs nothing may be left out of a sum
+sum_some : (f : ℕ → ℕ) (xs : List ℕ) → sum_by f (filter (λ x. ltb 0 (f x)) xs) ≡ sum_by f xs
+sum_some f [] = refl
+sum_some f (x ∷ xs) = some_first f x (filter (λ y. ltb 0 (f y)) xs) (ltb 0 (f x)) refl ∙ ap (λ (n : ℕ). f x + n) (sum_some f xs) ∙ sym (sum_by-cons f x xs)
+
+-- the positions of a node can weigh no more than all that are alive
+pub same_total : (problem : Problem) (shape : Shape) (positions : List ℕ) → HasReaching problem shape positions → total_reach shape problem.boxes positions ≡ total_reach shape problem.boxes problem.alive
+same_total problem shape positions near =
+    let f : ℕ → ℕ = λ position. reach shape (slice_get problem.boxes position) in
+    sym (sum_some f positions) ∙ ap (λ (xs : List ℕ). sum_by f xs) near.same ∙ sum_some f problem.alive
+
+above_some : (a b : ℕ) → a ≤ b → ltb 0 a ≡ true → ltb 0 b ≡ true
+above_some a b more some = grind (arith, nat_tests)
+
+has_weight : (a w : ℕ) (b : Bool) → (b && ltb 0 w) ≡ true → w ≤ a → ltb 0 a ≡ true
+has_weight a w true some more = above_some w a more some
+has_weight a w false some more = absurd (let no : false ≡ true = some in cc)
+
+member_reaches : (shape : Shape) (slope offset : ℤ) → IsInside slope offset shape → (gutters : List Rect) (in_column : ℕ) (o : Option Rect) → is_of slope offset gutters in_column o ≡ true → ltb 0 (reach shape o) ≡ true
+member_reaches shape slope offset inside gutters in_column (Some r) is = has_weight (reach shape (Some r)) (weight slope offset r) (eqb (column_of slope offset gutters (middle_of r)) in_column) is (weight_below shape slope offset inside (Some r))
+member_reaches shape slope offset inside gutters in_column None is = absurd (let no : false ≡ true = is in cc)
+
+-- the members of a group can weigh something
+group_twice : (shape : Shape) (slope offset : ℤ) → IsInside slope offset shape → (boxes gutters : List Rect) (in_column : ℕ) (xs : List ℕ) → group_of slope offset boxes gutters in_column (reaching shape boxes xs) ≡ group_of slope offset boxes gutters in_column xs
+group_twice shape slope offset inside boxes gutters in_column xs =
+    filter_twice (λ position. is_of slope offset gutters in_column (slice_get boxes position)) (λ position. ltb 0 (reach shape (slice_get boxes position)))
+    (λ position is. member_reaches shape slope offset inside gutters in_column (slice_get boxes position) is) xs
+
+-- so a group among the positions of a node is one among all that are alive
+pub same_group : (problem : Problem) (shape : Shape) (slope offset : ℤ) → IsInside slope offset shape → (positions : List ℕ) → HasReaching problem shape positions → (in_column : ℕ) → group_of slope offset problem.boxes problem.gutters in_column positions ≡ group_of slope offset problem.boxes problem.gutters in_column problem.alive
+same_group problem shape slope offset inside positions near in_column =
+    sym (group_twice shape slope offset inside problem.boxes problem.gutters in_column positions)
+    ∙ ap (group_of slope offset problem.boxes problem.gutters in_column) near.same
+    ∙ group_twice shape slope offset inside problem.boxes problem.gutters in_column problem.alive
+
+part_twice : (shape part : Shape) → HasCorners shape part → (boxes : List Rect) (xs : List ℕ) → reaching part boxes (reaching shape boxes xs) ≡ reaching part boxes xs
+part_twice shape part corners boxes xs =
+    filter_twice (λ position. ltb 0 (reach part (slice_get boxes position))) (λ position. ltb 0 (reach shape (slice_get boxes position)))
+    (λ position some. above_some (reach part (slice_get boxes position)) (reach shape (slice_get boxes position)) (reach_shrinks shape part corners (slice_get boxes position)) some) xs
+
+-- the positions of a node have those of each part
+pub part_reaching : (problem : Problem) (shape part : Shape) → HasCorners shape part → (positions : List ℕ) → HasReaching problem shape positions → HasReaching problem part positions
+part_reaching problem shape part corners positions near = record {
+  same = sym (part_twice shape part corners problem.boxes positions) ∙ ap (reaching part problem.boxes) near.same ∙ part_twice shape part corners problem.boxes problem.alive;
+  within = near.within;
+  few = near.few;
+}
+
+-- those that can weigh something are enough
+pub kept_reaching : (problem : Problem) (shape : Shape) (positions kept : List ℕ) → HasReaching problem shape positions → kept ≡ reaching shape problem.boxes positions → HasReaching problem shape kept
+kept_reaching problem shape positions kept near is =
+    let p : ℕ → Bool = λ position. ltb 0 (reach shape (slice_get problem.boxes position)) in
+    rw is (record {
+      same = filter_twice p p (λ position some. some) positions ∙ near.same;
+      within = All-filter p (λ (position : ℕ). position < length problem.boxes) positions near.within;
+      few = omega (arith, near.few, length-filter_both p (λ (position : ℕ). not (p position)) (λ _. refl) positions);
+    })
+
+-- all that are alive are enough for each shape
+pub all_reaching : (problem : Problem) (shape : Shape) → All (λ position. position < length problem.boxes) problem.alive → length problem.alive ≤ 60000 → HasReaching problem shape problem.alive
+all_reaching problem shape within few = record { same = refl; within = within; few = few }

@@ -1,0 +1,85 @@
+-- What the lines of a shape can score at most.
+use Rattle.std.specs.Prelude.{◌≡◌, ℕ, ◌+◌, ◌<◌, ◌≤◌, ℤ, pos, ◌-ℤ◌, List, length, Option, Some, None, slice_get, All, Bool, false, ◌&&◌, ◌==◌, int_lt, int_le, nat_le, nat_lt}
+use Rattle.std.specs.Int.{int_gap, int_min, int_max}
+use Rattle.std.specs.List.{sum_by, count_by, filter}
+use Rattle.layout_geom.specs.declared.rect.Rect.{Rect}
+use Rattle.box_search.specs.declared.space.Shape.{Shape}
+use Rattle.box_search.specs.declared.space.Node.{Node}
+use Rattle.line_quality.specs.Points.{height_at, middle_of, weight_at}
+use Rattle.line_quality.specs.Keys.{line_key}
+use Rattle.line_search.specs.Problem.{Problem, OfProblem, HasScore}
+use Rattle.line_search.specs.Shapes.{IsInside, IsInGrid, IsSingle}
+
+-- no line of the shape is lower, or higher, at a column
+abbrev pub lowest : Shape → ℕ → ℤ
+lowest shape x = height_at shape.a0 shape.b0 x
+
+abbrev pub highest : Shape → ℕ → ℤ
+highest shape x = height_at (shape.a1 -ℤ pos 1) (shape.b1 -ℤ pos 1) x
+
+-- how far the foot of a box is from the interval between the two heights
+abbrev pub distance : Shape → Rect → ℕ
+distance shape r = int_gap (pos r.y1) (lowest shape (middle_of r)) + int_gap (highest shape (middle_of r)) (pos r.y1)
+
+-- the most that a box can weigh for a line of the shape
+abbrev pub reach : Shape → Option Rect → ℕ
+reach shape (Some r) = weight_at (distance shape r)
+reach shape None = 0
+
+-- all lines of the shape cross the gutter
+abbrev pub all_cross : Shape → Rect → Bool
+all_cross shape gutter = int_lt (pos gutter.y0) (lowest shape (middle_of gutter)) && int_le (highest shape (middle_of gutter)) (pos gutter.y1)
+
+-- how many gutters that all lines cross have their middle at the anchor or left of it
+abbrev pub sure_column : Shape → List Rect → ℕ → ℕ
+sure_column shape gutters anchor = count_by (λ gutter. all_cross shape gutter && nat_le (middle_of gutter) anchor) gutters
+
+abbrev pub is_surely : Shape → List Rect → ℕ → Option Rect → Bool
+is_surely shape gutters in_column (Some r) = sure_column shape gutters (middle_of r) == in_column
+is_surely shape gutters in_column None = false
+
+module _ (shape : Shape) (boxes : List Rect) where
+  -- those of the positions whose box can weigh something for a line of the shape
+  abbrev pub reaching : List ℕ → List ℕ
+  reaching positions = filter (λ position. nat_lt 0 (reach shape (slice_get boxes position))) positions
+
+  -- the most that the boxes at the positions can weigh together
+  abbrev pub total_reach : List ℕ → ℕ
+  total_reach positions = sum_by (λ position. reach shape (slice_get boxes position)) positions
+
+  -- the most that those of one sure column can weigh together
+  abbrev pub column_reach : List Rect → List ℕ → ℕ → ℕ
+  column_reach gutters positions in_column = total_reach (filter (λ position. is_surely shape gutters in_column (slice_get boxes position)) positions)
+
+-- the slope of the shape that is nearest to 0, which has the least rank
+abbrev pub nearest_slope : Shape → ℤ
+nearest_slope shape = int_max shape.a0 (int_min (shape.a1 -ℤ pos 1) (pos 0))
+
+-- the bound that knows no columns
+abbrev pub plain_bound : Problem → Shape → ℕ
+plain_bound problem shape = line_key (total_reach shape problem.boxes problem.alive) (nearest_slope shape) shape.b0
+
+-- no scored point of the shape has a greater key
+abbrev pub IsOver : Problem → Shape → ℕ → Type 0
+IsOver problem shape bound = (slope offset : ℤ) (score : ℕ) → HasScore problem slope offset score → IsInside slope offset shape → line_key score slope offset ≤ bound
+
+-- a bound of all points in the shape: the key itself where there is one point, and else at most the plain bound
+pub record IsBound (problem : Problem) (shape : Shape) (bound : ℕ) : Type 0 where
+  pub over : IsOver problem shape bound
+  pub single : IsSingle shape → (score : ℕ) × HasScore problem shape.a0 shape.b0 score × (line_key score shape.a0 shape.b0 ≡ bound)
+  pub wide : (IsSingle shape → ⊥) → bound ≤ plain_bound problem shape
+
+-- of the boxes that are alive the positions have, in order, those that can weigh something for a line of the shape
+pub record HasReaching (problem : Problem) (shape : Shape) (positions : List ℕ) : Type 0 where
+  pub same : reaching shape problem.boxes positions ≡ reaching shape problem.boxes problem.alive
+  pub within : All (λ position. position < length problem.boxes) positions
+  pub few : length positions ≤ 60000
+
+-- the node's shape is of the grid, its bound is one, and unless it is a single point its positions are those that count
+pub record IsNodeIn (node : Node (List ℕ)) (problem : Problem) : Type 0 where
+  pub in_grid : IsInGrid problem.height node.shape
+  pub bounded : IsBound problem node.shape node.bound
+  pub near : (IsSingle node.shape → ⊥) → HasReaching problem node.shape node.work
+
+abbrev pub FitsGrid : List ℤ → Node (List ℕ) → Type 0
+FitsGrid numbers node = OfProblem (IsNodeIn node) numbers

@@ -1,0 +1,70 @@
+-- The lines of text of a page, each the best of the grid among the boxes that are in no line before it.
+use Rattle.std.specs.Prelude.{◌≡◌, ℕ, ◌+◌, ◌*◌, ◌≤◌, ℤ, pos, negsuc, ◌≤ℤ◌, Bool, false, not, ◌&&◌, ◌==◌, nat_le, List, [], ◌∷◌, Option, Some, None, slice_get, length, IfSome, All}
+use Rattle.std.specs.List.{filter, list_any, range_with_len}
+use Rattle.layout_geom.specs.declared.rect.Rect.{Rect}
+use Rattle.layout_geom.specs.Rectangles.{width_of, height_of, Encloses}
+use Rattle.components.specs.declared.kept.Kept.{Kept}
+use Rattle.line_quality.specs.Points.{IsSlope}
+use Rattle.line_quality.specs.Scores.{IsScore, group_of}
+use Rattle.line_quality.specs.Keys.{line_key}
+use Rattle.line_search.specs.declared.line.Line.{Line}
+
+-- the rectangle encloses the boxes at the positions
+abbrev pub IsRound : List Rect → List ℕ → Rect → Type 0
+IsRound boxes positions outer = All (λ position. IfSome (slice_get boxes position) (λ box. Encloses outer box)) positions
+
+-- and each other rectangle that does encloses this one
+pub record IsLeastRound (boxes : List Rect) (positions : List ℕ) (r : Rect) : Type 0 where
+  pub round : IsRound boxes positions r
+  pub least : (outer : Rect) → IsRound boxes positions outer → Encloses outer r
+
+-- the positions that are left without the members of a line
+abbrev pub without : List ℕ → List ℕ → List ℕ
+without members alive = filter (λ position. not (list_any (λ member. member == position) members)) alive
+
+-- a point of the grid of a page of this height: a line by its slope in thousandths and its offset
+pub record IsPoint (height : ℕ) (slope offset : ℤ) : Type 0 where
+  pub slope_in : IsSlope slope
+  pub low : negsuc 299 ≤ℤ offset
+  pub high : offset ≤ℤ pos (height + 300)
+
+module _ (boxes gutters : List Rect) (height : ℕ) where
+  -- the point is of the grid, and this is the greatest weight of a column of the boxes that are alive
+  pub record IsScored (alive : List ℕ) (slope offset : ℤ) (score : ℕ) : Type 0 where
+    pub point : IsPoint height slope offset
+    pub in_column : ℕ
+    pub scored : IsScore slope offset boxes gutters alive score in_column
+
+  -- the score is enough for a line
+  pub record IsAdmissible (alive : List ℕ) (slope offset : ℤ) (score : ℕ) : Type 0 where
+    pub scored : IsScored alive slope offset score
+    pub enough : 60 ≤ score
+
+  -- no point is admissible
+  abbrev pub HasNoLine : List ℕ → Type 0
+  HasNoLine alive = (slope offset : ℤ) (score : ℕ) → IsAdmissible alive slope offset score → ⊥
+
+  -- the admissible point of greatest key, with the group of the column that wins
+  pub record IsBestLine (alive : List ℕ) (line : Line) : Type 0 where
+    pub admissible : IsAdmissible alive line.slope line.offset line.score
+    pub greatest : (slope offset : ℤ) (score : ℕ) → IsAdmissible alive slope offset score → line_key score slope offset ≤ line_key line.score line.slope line.offset
+    pub members : line.members ≡ group_of line.slope line.offset boxes gutters admissible.scored.in_column alive
+    pub bbox : IsLeastRound boxes line.members line.bbox
+
+  -- each line is the best of what the lines before it leave, and the last leaves none
+  abbrev pub IsLineList : List ℕ → List Line → Type 0
+  IsLineList alive [] = HasNoLine alive
+  IsLineList alive (line ∷ lines) = IsBestLine alive line × IsLineList (without line.members alive) lines
+
+-- the sides are those of a character on a page of this median height
+abbrev pub is_char_sized : ℕ → Option Rect → Bool
+is_char_sized median (Some r) = nat_le median (2 * height_of r) && nat_le (height_of r) (3 * median) && nat_le (width_of r) (6 * median)
+is_char_sized median None = false
+
+-- the positions, in rising order, of the kept boxes that have the size of a character
+abbrev pub characters_of : Kept → List ℕ
+characters_of kept = filter (λ position. is_char_sized kept.median (slice_get kept.boxes position)) (range_with_len 0 (length kept.boxes))
+
+-- the lines of a page, the best first
+abbrev pub AreLinesOf : Kept → List Rect → ℕ → List Line → Type 0
+AreLinesOf kept gutters height lines = IsLineList kept.boxes gutters height (characters_of kept) lines

@@ -1,0 +1,61 @@
+//! The greedy list of the lines of a page.
+ghost use Rattle.std.specs.Prelude.{◌≡◌, ◌≤◌, IfOk, length, All};
+ghost use Rattle.layout_geom.specs.declared.rect.Rect.{Rect};
+ghost use Rattle.layout_geom.specs.Rectangles.{Encloses};
+ghost use Rattle.line_search.specs.Lines.{AreLinesOf};
+
+use crate::characters::characters;
+use crate::grid::Grid;
+use crate::line::Lines;
+use box_search::Searcher;
+use components::Kept;
+use layout_geom::{OutOfMemory, Rects};
+use std::alloc::Global;
+
+/// The rectangles, in a list of their own.
+fn copy_of(alloc: Global, rects: &Rects) -> Result<Rects, OutOfMemory>
+    requires { length rects.now ≤ 60000 }
+    ensures { IfOk result (λ copy. copy ≡ rects.now) }
+{
+    let copy = Vec::from_slice(alloc, rects.as_slice())?;
+    Ok(Rects::from_vec(copy))
+}
+
+/// The lines of text of a page, the best first: each is the best among the boxes that are in no line
+/// before it, as in the greedy search for lines of Breuel (2002).
+///
+/// At first all kept boxes that have about the size of a character are alive. A line is the admissible
+/// line of the grid of greatest key; its members are the boxes that weigh something for it, of the column
+/// between gutters that weighs most, so that no line goes on across a gutter that it crosses. They are
+/// alive no more afterwards. The list ends where no line has a score of at least 60.
+///
+/// There are at most 60,000 boxes and 256 gutters, the height is from 1 to 8192, and one rectangle has all
+/// boxes inside. The one refusal is want of memory, after which it may be called again.
+pub fn lines<F: Searcher>(
+    alloc: Global,
+    run: &F::Run,
+    kept: &Kept,
+    gutters: &Rects,
+    height: u16,
+    searcher: &mut F,
+) -> Result<Lines, OutOfMemory>
+    requires few_boxes { length kept.now.boxes ≤ 60000 }
+    requires few_gutters { length gutters.now ≤ 256 }
+    requires low { 1 ≤ height }
+    requires high { height ≤ 8192 }
+    requires contained { (outer : Rect) × All (Encloses outer) kept.now.boxes }
+    ensures lines { IfOk result (AreLinesOf kept.now gutters.now height) }
+{
+    let alive = characters(alloc, kept)?;
+    let boxes = copy_of(alloc, &kept.boxes)?;
+    let mut grid = Grid::new(boxes, alive, copy_of(alloc, gutters)?, height);
+    let mut lines = Lines::new(alloc);
+    loop {
+        let key = searcher.best(alloc, run, &grid)?;
+        if key == 0 {
+            return Ok(lines);
+        }
+        let line = grid.take_line(alloc, key)?;
+        lines.push(line)?;
+    }
+}

@@ -1,0 +1,217 @@
+//! The lines that a page may have, as a space to be searched.
+use crate::bound::{is_single, nearest_slope};
+use crate::line::Line;
+use crate::members::{divide, least_round};
+use crate::near::near;
+use crate::parts::{halves, listed};
+use box_search::{Node, Shape, Space, Step};
+use layout_geom::{Numbers, OutOfMemory, Rects};
+use line_quality::{line_key, point_of, score_at};
+use std::alloc::Global;
+use std::marker::Model;
+
+/// The lines that a page may have, by their slopes and offsets, to be searched for the one of greatest
+/// key: a search for baselines by branch and bound, after Breuel (2002).
+///
+/// The slopes go from -32 to 32 thousandths, the offsets from 300 rows above the page to 300 rows below.
+/// A line is admitted where its score among the boxes that are alive is at least 60.
+#[derive(Drop)]
+pub struct Grid {
+    boxes: Rects,
+    alive: Numbers,
+    gutters: Rects,
+    height: u16,
+}
+
+impl Model for Grid {
+    ghost use Rattle.line_search.specs.Problem.{Problem, IsWithinLimits};
+
+    ghost Value = { Problem };
+
+    ghost view = { λ grid. record { height = grid.height; boxes = grid.boxes; alive = grid.alive; gutters = grid.gutters } };
+
+    ghost invariant = { λ grid. IsWithinLimits (record { height = grid.height; boxes = grid.boxes; alive = grid.alive; gutters = grid.gutters }) };
+}
+
+/// The least key of a line whose score is enough.
+const LEAST_KEY: u64 = 60 << 23;
+
+impl Grid {
+    ghost use Rattle.std.specs.Prelude.{◌≡◌, ◌<◌, ◌≤◌, OnOk, IfOk, IfSome, IfNone, length, All};
+    ghost use Rattle.layout_geom.specs.declared.rect.Rect.{Rect};
+    ghost use Rattle.layout_geom.specs.Rectangles.{Encloses};
+    ghost use Rattle.box_search.specs.Search.{IsGreatestKey};
+    ghost use Rattle.line_search.specs.Lines.{IsBestLine, without};
+    ghost use Rattle.line_search.specs.Problem.{numbers_of, IsAdmitted};
+    ghost use Rattle.line_search.specs.Shapes.{IsInGrid};
+    ghost use Rattle.line_search.specs.Bounds.{IsOver, HasReaching, IsNodeIn};
+    ghost use Rattle.line_search.specs.Parts.{HasNoPoint};
+
+    /// The lines of a page with these boxes, scored by those of them at the positions in `alive`. There are
+    /// at most 60,000 boxes, 60,000 positions and 256 gutters, and the height is from 1 to 8192. It takes no
+    /// memory.
+    pub fn new(boxes: Rects, alive: Numbers, gutters: Rects, height: u16) -> Grid
+        requires low { 1 ≤ height }
+        requires high { height ≤ 8192 }
+        requires few_boxes { length boxes ≤ 60000 }
+        requires few_alive { length alive ≤ 60000 }
+        requires few_gutters { length gutters ≤ 256 }
+        requires positions { All (λ position. position < length boxes) alive }
+        ensures height { result.height ≡ height }
+        ensures boxes { result.boxes ≡ boxes }
+        ensures alive { result.alive ≡ alive }
+        ensures gutters { result.gutters ≡ gutters }
+    {
+        Grid {
+            boxes,
+            alive,
+            gutters,
+            height,
+        }
+    }
+
+    /// The node of a shape. The positions are at least those of the boxes that can weigh something for its
+    /// lines.
+    fn node_of(
+        &self,
+        alloc: Global,
+        shape: Shape,
+        positions: &Numbers,
+    ) -> Result<Node<Numbers>, OutOfMemory>
+        requires in_grid { IsInGrid self.now.height shape }
+        requires positions { HasReaching self.now shape positions.now }
+        ensures fitting { IfOk result (λ node. IsNodeIn node self.now) }
+        ensures shape { IfOk result (λ node. node.shape ≡ shape) }
+    {
+        if is_single(&shape) {
+            let (slope, offset) = (shape.a0 as i8, shape.b0 as i16);
+            let score = score_at(slope, offset, &self.boxes, positions, &self.gutters);
+            return Ok(Node {
+                shape,
+                bound: line_key(score.score, slope, offset),
+                work: Numbers::new(alloc),
+            });
+        }
+        let near = near(alloc, &shape, &self.boxes, &self.gutters, positions)?;
+        Ok(Node {
+            shape,
+            bound: line_key(near.most, nearest_slope(&shape), shape.b0 as i16),
+            work: near.positions,
+        })
+    }
+
+    /// The node of a part of a shape, unless it has no admissible point.
+    fn part(
+        &self,
+        alloc: Global,
+        shape: Shape,
+        positions: &Numbers,
+        limit: u64,
+    ) -> Result<Option<Node<Numbers>>, OutOfMemory>
+        requires in_grid { IsInGrid self.now.height shape }
+        requires positions { HasReaching self.now shape positions.now }
+        requires over { IsOver self.now shape limit }
+        ensures fitting { IfOk result (λ part. IfSome part (λ node. IsNodeIn node self.now)) }
+        ensures shape { IfOk result (λ part. IfSome part (λ node. node.shape ≡ shape)) }
+        ensures bound { IfOk result (λ part. IfSome part (λ node. node.bound ≤ limit)) }
+        ensures none { IfOk result (λ part. IfNone part (HasNoPoint self.now shape)) }
+    {
+        let node = self.node_of(alloc, shape, positions)?;
+        let bound = node.bound.min(limit);
+        if bound < LEAST_KEY {
+            return Ok(None);
+        }
+        Ok(Some(Node { bound, ..node }))
+    }
+
+    /// The line of the greatest key, whose members are then alive no more.
+    pub(crate) fn take_line(&mut self, alloc: Global, key: u64) -> Result<Line, OutOfMemory>
+        requires greatest { IsGreatestKey (IsAdmitted (numbers_of self.old)) key }
+        requires some { 0 < key }
+        requires high { self.old.height ≤ 8192 }
+        requires contained { (outer : Rect) × All (Encloses outer) self.old.boxes }
+        ensures best { IfOk result (λ line. IsBestLine self.old.boxes self.old.gutters self.old.height self.old.alive line) }
+        ensures rest { IfOk result (λ line. self.new ≡ record self.old { alive = without line.members self.old.alive }) }
+        ensures fewer { OnOk result (length self.new.alive < length self.old.alive) }
+    {
+        let (slope, offset) = point_of(key);
+        let score = score_at(slope, offset, &self.boxes, &self.alive, &self.gutters);
+        let division = divide(
+            alloc,
+            slope,
+            offset,
+            score.column,
+            &self.boxes,
+            &self.alive,
+            &self.gutters,
+        )?;
+        let bbox = least_round(self.boxes.as_slice(), division.members.as_slice());
+        self.alive = division.others;
+        Ok(Line {
+            slope,
+            offset,
+            members: division.members,
+            bbox,
+            score: score.score,
+        })
+    }
+}
+
+impl Space for Grid {
+    ghost use Rattle.std.specs.Prelude.{◌≡◌, IfOk, IfSome, IsSome};
+    ghost use Rattle.box_search.specs.Search.{IsRootOf, IsStepOf};
+    ghost use Rattle.line_search.specs.Problem.{numbers_of, IsAdmitted};
+    ghost use Rattle.line_search.specs.Shapes.{LiesInShape, whole_grid};
+    ghost use Rattle.line_search.specs.Bounds.{FitsGrid};
+    ghost use Rattle.line_search.specs.Parts.{IsGridStep};
+    ghost use Rattle.line_search.specs.GridLaws.{grid_positive, grid_bounded};
+
+    type Work = Numbers;
+
+    ghost problem = { numbers_of };
+
+    ghost admits = { IsAdmitted };
+
+    ghost lies_in = { λ _ key shape. LiesInShape key shape };
+
+    ghost fits = { FitsGrid };
+
+    ghost positive = { grid_positive };
+
+    ghost bounded = { grid_bounded };
+
+    fn root(&self, alloc: Global) -> Result<Option<Node<Numbers>>, OutOfMemory>
+        ensures root { let p = numbers_of self.now in IfOk result (IsRootOf (IsAdmitted p) LiesInShape (FitsGrid p)) }
+        // There always is one, and its shape is the whole grid.
+        ensures always { IfOk result (λ root. IsSome root) }
+        ensures whole { IfOk result (λ root. IfSome root (λ node. node.shape ≡ whole_grid self.now.height)) }
+    {
+        let shape = Shape {
+            a0: -32,
+            a1: 33,
+            b0: -300,
+            b1: self.height as i32 + 301,
+            c0: 0,
+            c1: 1,
+        };
+        let node = self.node_of(alloc, shape, &self.alive)?;
+        Ok(Some(node))
+    }
+
+    fn step(&self, alloc: Global, node: &Node<Numbers>) -> Result<Step<Numbers>, OutOfMemory>
+        requires fits { FitsGrid (numbers_of self.now) node.now }
+        ensures step { let p = numbers_of self.now in IfOk result (IsStepOf (IsAdmitted p) LiesInShape (FitsGrid p) node.now) }
+        ensures exactly { IfOk result (IsGridStep self.now node.now.shape) }
+    {
+        if is_single(&node.shape) {
+            if node.bound < LEAST_KEY {
+                return Ok(Step::Split(Vec::new(alloc)));
+            }
+            return Ok(Step::Settled(node.bound));
+        }
+        let (lower, upper) = halves(&node.shape);
+        let lower = self.part(alloc, lower, &node.work, node.bound)?;
+        let upper = self.part(alloc, upper, &node.work, node.bound)?;
+        Ok(Step::Split(listed(alloc, lower, upper)?))
+    }
+}

@@ -1,0 +1,17 @@
+//! The lines of text of a page: the grid of baselines as a space to be searched, and the greedy list of
+//! the best lines, none of which crosses a gutter.
+#![tactic(auto)]
+
+mod bound;
+mod characters;
+mod greedy;
+mod grid;
+mod line;
+mod members;
+mod near;
+mod parts;
+
+pub use greedy::lines;
+pub use grid::Grid;
+pub use layout_geom::OutOfMemory;
+pub use line::{Line, Lines};

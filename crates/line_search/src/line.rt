@@ -1,0 +1,20 @@
+//! A line of text, and lists of lines.
+use layout_geom::{Items, Numbers, Rect};
+
+/// A line of text: a baseline of the grid and the boxes that stand on it.
+#[derive(Drop)]
+pub struct Line {
+    /// The slope of the baseline in thousandths, from -32 to 32, downwards to the right.
+    pub slope: i8,
+    /// The height of the baseline at column 0, in rows from the top of the page.
+    pub offset: i16,
+    /// The positions of the boxes in the list of the page's boxes, in rising order.
+    pub members: Numbers,
+    /// The least rectangle round the boxes.
+    pub bbox: Rect,
+    /// What the boxes weigh together, at least 60.
+    pub score: u32,
+}
+
+/// Lines of text.
+pub type Lines = Items<Line>;
