@@ -11,7 +11,7 @@ use Rattle.layout_core.specs.declared.page_layout.CoreFault.{CoreFault}
 use Rattle.layout_core.specs.declared.page_layout.CoreFault.TheVariants as faults
 use Rattle.components.specs.Kept.{IsKeptList, IsKeptCount, IsKeptOf, KeptIsUnique}
 use Rattle.layout_core.specs.declared.refusal.Refusal.TheVariants as refusals
-use Rattle.hocr_writer.specs.declared.document.Layout.{Layout}
+use Rattle.hocr_writer.specs.declared.layout.Layout.{Layout}
 use Rattle.layout_core.specs.Refused.{refusal_of}
 use Rattle.layout_core.specs.Layouts.{HasFewComponents, HasTooMany, IsLayout, IsCoreFault}
 use Rattle.layout_core.specs.Run.{ReadsWhole}

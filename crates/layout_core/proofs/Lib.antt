@@ -1,2 +1,5 @@
 pub mod Ends
 pub mod Components
+pub mod Rising
+pub mod Inside
+pub mod Wholes

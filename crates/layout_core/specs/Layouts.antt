@@ -1,5 +1,5 @@
 -- The layout of a page.
-use Rattle.std.specs.Prelude.{◌≡◌, ◌<◌, ◌≤◌, ⊤, ℕ, List, length, max}
+use Rattle.std.specs.Prelude.{◌≡◌, ◌<◌, ◌≤◌, ⊤, ℕ, List, [], length, map, max}
 use Rattle.page_runs.specs.Page.{Page}
 use Rattle.page_runs.specs.Black.{black_of}
 use Rattle.layout_geom.specs.declared.rect.Rect.{Rect}
@@ -8,12 +8,19 @@ use Rattle.components.specs.declared.kept.Kept.{Kept}
 use Rattle.components.specs.Kept.{IsKeptOf, IsKeptList, IsKeptCount}
 use Rattle.whitespace_cover.specs.Cover.{IsCover}
 use Rattle.gutters.specs.Gutters.{gutters_of}
-use Rattle.hocr_writer.specs.declared.document.Layout.{Layout}
+use Rattle.line_search.specs.declared.line.Line.{Line}
+use Rattle.line_search.specs.Lines.{AreLinesOf}
+use Rattle.reading_order.specs.Answers.{IsReadingOrder}
+use Rattle.reading_order.specs.Areas.{AreAreasOf}
+use Rattle.hocr_writer.specs.declared.layout.Layout.{Layout}
+use Rattle.hocr_writer.specs.Listing.{listing_of}
+use Rattle.layout_core.specs.Numbering.{box_of, IsNumbered}
 use Rattle.layout_core.specs.declared.page_layout.CoreFault.{CoreFault}
 use Rattle.layout_core.specs.declared.page_layout.CoreFault.TheVariants as faults
 
 -- The layout of a page: its kept components, the greedy cover of its white space by at most 32 rectangles, each at least as wide and as high
--- as the median height and as 8 pixels, and the gutters among them.
+-- as the median height and as 8 pixels, the gutters among them, the greedy lines of its text in the order of their numbers, the order in which
+-- they are read, or the cycle that forbids one, and the areas that their listing falls into.
 pub record IsLayout (page : Page) (layout : Layout) : Type 0 where
   pub kept : Kept
   pub is_kept : IsKeptOf page kept
@@ -27,6 +34,12 @@ pub record IsLayout (page : Page) (layout : Layout) : Type 0 where
   pub median_is : layout.median ≡ kept.median
   pub cover : IsCover whole kept.boxes (max kept.median 8) 32 layout.whites
   pub gutters_are : layout.gutters ≡ gutters_of kept layout.whites
+  pub unnamed : layout.image ≡ []
+  pub found : List Line
+  pub are_lines : AreLinesOf kept layout.gutters page.height found
+  pub numbered : IsNumbered found layout.lines
+  pub order_is : IsReadingOrder (map box_of layout.lines) layout.order
+  pub areas_are : AreAreasOf (map box_of layout.lines) (listing_of layout) kept.median layout.areas
 
 -- at most 60,000 components of the page are kept
 pub record HasFewComponents (page : Page) : Type 0 where

@@ -1,4 +1,5 @@
 -- What a run makes of a page, and how it ends.
+pub mod Numbering
 pub mod Layouts
 pub mod Found
 pub mod Run

@@ -4,8 +4,8 @@ use Rattle.std.specs.Io.KnownBytes.{append_known}
 use Rattle.pbm_reader.specs.Page.{Page}
 use Rattle.pbm_reader.specs.Spelling.{Spells}
 use Rattle.pbm_reader.specs.Left.{TookAll}
-use Rattle.hocr_writer.specs.declared.document.Layout.{Layout}
-use Rattle.hocr_writer.specs.Document.{document}
+use Rattle.hocr_writer.specs.declared.layout.Layout.{Layout}
+use Rattle.hocr_writer.specs.Document.{document_of}
 use Rattle.layout_core.specs.Layouts.{IsLayout, HasTooMany}
 
 -- the input was read to its end, and it spells the page
@@ -32,7 +32,7 @@ pub record WritesDocument (source_old source_new out_old out_new : Option (List 
   pub layout : Layout
   pub reads : ReadsWhole source_old source_new page
   pub is_layout : IsLayout page layout
-  pub writes : out_new ≡ append_known out_old (document layout)
+  pub writes : out_new ≡ append_known out_old (document_of layout)
 
 -- the same, but a proper front of the document was written
 pub record FrontOfDocument (source_old source_new out_old out_new : Option (List ℕ)) : Type 0 where
@@ -41,5 +41,5 @@ pub record FrontOfDocument (source_old source_new out_old out_new : Option (List
   pub reads : ReadsWhole source_old source_new page
   pub is_layout : IsLayout page layout
   pub count : ℕ
-  pub proper : count < length (document layout)
-  pub writes : out_new ≡ append_known out_old (take count (document layout))
+  pub proper : count < length (document_of layout)
+  pub writes : out_new ≡ append_known out_old (take count (document_of layout))

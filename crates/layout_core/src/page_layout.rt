@@ -5,12 +5,15 @@ ghost use Rattle.page_runs.specs.Packed.{Holds, IsWhole, page_of};
 ghost use Rattle.layout_geom.specs.Rectangles.{HasSides};
 ghost use Rattle.layout_core.specs.Layouts.{IsLayout, IsCoreFault};
 
+use crate::numbering::{areas_in, boxes_of, number_lines};
 use box_search::Searcher;
 use components::{CompFault, components};
 use gutters::gutters;
 use hocr_writer::Layout;
-use layout_geom::Rect;
+use layout_geom::{Name, Rect};
+use line_search::lines;
 use page_runs::RunPage;
+use reading_order::order_of;
 use std::alloc::{AllocError, Global};
 use whitespace_cover::cover;
 
@@ -64,7 +67,8 @@ fn page_rect(page: &RunPage) -> Rect
 
 /// The layout of a page, by any searcher: its black pixels, its kept components and their median height, the greedy
 /// cover of its white space (Breuel 2002) by at most 32 rectangles that are at least as wide and as high as the median
-/// height and as 8 pixels, and the gutters among them.
+/// height and as 8 pixels, the gutters among them, the greedy lines of its text, the order in which they are read
+/// (Breuel 2003), and the areas that they form.
 ///
 /// It refuses a page of which more than 60,000 components are kept, and for want of memory.
 pub fn layout_of<F: Searcher>(
@@ -83,6 +87,11 @@ pub fn layout_of<F: Searcher>(
     let whole = page_rect(page);
     let whites = cover(alloc, run, whole, &kept.boxes, least, MOST_WHITES, searcher)?;
     let gutters = gutters(alloc, &whites, &kept)?;
+    let found = lines(alloc, run, &kept, &gutters, page.height(), searcher)?;
+    let lines = number_lines(alloc, &found)?;
+    let boxes = boxes_of(alloc, &lines)?;
+    let order = order_of(alloc, &boxes)?;
+    let areas = areas_in(alloc, &boxes, &order, kept.median)?;
     Ok(Layout {
         page: 0,
         width: page.width(),
@@ -90,7 +99,11 @@ pub fn layout_of<F: Searcher>(
         black: page.black(),
         kept: kept.boxes.len() as u32,
         median: kept.median,
+        image: Name::new(alloc),
         whites,
         gutters,
+        lines,
+        order,
+        areas,
     })
 }

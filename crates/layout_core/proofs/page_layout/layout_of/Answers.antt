@@ -1,13 +1,20 @@
-use Rattle.std.proofs.Common.{◌≡◌, ℕ, refl, subst, ◌∙◌}
+use Rattle.std.proofs.Common.{◌≡◌, ℕ, ◌≤◌, List, length, map, refl, subst, ◌∙◌, arith}
 use Rattle.std.proofs.lemmas.Result.{err_from_is_err_and}
+use Rattle.std.proofs.lemmas.List.{length-map}
 use Rattle.page_runs.specs.Page.{Page}
+use Rattle.layout_geom.specs.declared.rect.Rect.{Rect}
+use Rattle.hocr_writer.specs.Listing.{listing}
+use Rattle.reading_order.specs.Areas.{AreAreasOf}
+use Rattle.layout_core.specs.Numbering.{box_of}
 use Rattle.page_runs.specs.Packed.{Packed, Holds, page_of}
 use Rattle.components.specs.declared.kept.CompFault.{CompFault}
 use Rattle.components.specs.declared.kept.CompFault.TheVariants as faults
 use Rattle.components.specs.Kept.{IsFaultOf}
 use Rattle.whitespace_cover.specs.Cover.{IsCover}
+use Rattle.line_search.specs.Lines.{AreLinesOf}
 use Rattle.layout_core.specs.Found.{core_fault_of}
 use Rattle.layout_core.specs.Layouts.{IsCoreFault}
+use Rattle.layout_core.proofs.Inside.{filter_few, kept_inside, numbered_inside}
 use Rattle.layout_core.proofs.page_layout.layout_of.Goals as goal
 
 faulted : (page : Page) (fault : CompFault) → IsFaultOf page fault → IsCoreFault page (core_fault_of fault)
@@ -26,12 +33,37 @@ returns-in_err-kept-clause-fault g c =
 pub cover-requires-clause-boxes : goal.cover-requires-clause-boxes
 cover-requires-clause-boxes g c = (c.in_ok-kept.ensures.kept (page_of c.args.page.now) (holds_itself c.args.page.now)).few
 
+pub lines-requires-clause-few_boxes : goal.lines-requires-clause-few_boxes
+lines-requires-clause-few_boxes g c = (c.in_ok-kept.ensures.kept (page_of c.args.page.now) (holds_itself c.args.page.now)).few
+
+pub lines-requires-clause-few_gutters : goal.lines-requires-clause-few_gutters
+lines-requires-clause-few_gutters g c =
+    let few : length c.in_ok-gutters.gutters ≤ length c.in_ok-whites.whites = rw c.in_ok-gutters.ensures.filtered (filter_few _ c.in_ok-whites.whites) in
+    omega (arith, few, c.in_ok-whites.ensures.cover.few)
+
+pub lines-requires-clause-contained : goal.lines-requires-clause-contained
+lines-requires-clause-contained g c =
+    let held = page_of c.args.page.now in
+    (c.page_rect-whole.result, kept_inside held c.page_rect-whole.result c.page_rect-whole.ensures c.in_ok-kept.kept.boxes (c.in_ok-kept.ensures.kept held (holds_itself c.args.page.now)).boxes)
+
+pub areas_in-requires-clause-contained : goal.areas_in-requires-clause-contained
+areas_in-requires-clause-contained g c =
+    let held = page_of c.args.page.now in
+    let whole = c.page_rect-whole.result in
+    let boxes = c.in_ok-kept.kept.boxes in
+    let all = kept_inside held whole c.page_rect-whole.ensures boxes (c.in_ok-kept.ensures.kept held (holds_itself c.args.page.now)).boxes in
+    (whole, rw c.in_ok-boxes.ensures (numbered_inside boxes c.in_ok-gutters.gutters _ whole all _ c.in_ok-found.found c.in_ok-lines.lines c.in_ok-found.ensures.lines c.in_ok-lines.ensures))
+
 pub returns-clause-layout : goal.returns-clause-layout
 returns-clause-layout g c =
     let kept = c.in_ok-kept.kept in
     let whole = c.page_rect-whole.result in
     let sides = c.page_rect-whole.ensures in
     let P : ℕ → Type 0 = λ least. IsCover whole kept.boxes least 32 c.in_ok-whites.whites in
+    let Q : ℕ → Type 0 = λ height. AreLinesOf kept c.in_ok-gutters.gutters height c.in_ok-found.found in
+    let order = c.in_ok-order.order in
+    let R : List Rect → Type 0 = λ boxes. AreAreasOf boxes (listing order (length boxes)) kept.median c.in_ok-areas.areas in
+    let S : ℕ → Type 0 = λ count. AreAreasOf (map box_of c.in_ok-lines.lines) (listing order count) kept.median c.in_ok-areas.areas in
     λ held holds.
     record {
       kept = kept;
@@ -40,10 +72,16 @@ returns-clause-layout g c =
       sides = record { left = sides.left; top = sides.top; right = sides.right ∙ holds.width_is; bottom = sides.bottom ∙ holds.height_is };
       number_is = refl;
       width_is = c.width.ensures.value ∙ holds.width_is;
-      height_is = c.height.ensures.value ∙ holds.height_is;
+      height_is = c.height-2.ensures.value ∙ holds.height_is;
       black_is = c.black.ensures.held held holds;
       kept_is = c.len.ensures.value;
       median_is = refl;
       cover = subst P c.max-least.ensures c.in_ok-whites.ensures.cover;
       gutters_are = c.in_ok-gutters.ensures.filtered;
+      unnamed = c.new.ensures.empty;
+      found = c.in_ok-found.found;
+      are_lines = subst Q (c.height.ensures.value ∙ holds.height_is) c.in_ok-found.ensures.lines;
+      numbered = c.in_ok-lines.ensures;
+      order_is = rw (← c.in_ok-boxes.ensures) c.in_ok-order.ensures.order;
+      areas_are = subst S (length-map c.in_ok-lines.lines box_of) (subst R c.in_ok-boxes.ensures c.in_ok-areas.ensures);
     }

@@ -1,6 +1,7 @@
 use Rattle.std.proofs.Common.{◌≡◌, Err, sym, ap, ◌∙◌, rules}
 use Rattle.layout_core.specs.declared.refusal.Refusal.TheVariants.{TooMany}
 use Rattle.layout_core.proofs.Ends.{ends_bad, ends_full, ends_unread, ends_unmade, ends_answered, ends_memory}
+use Rattle.layout_core.proofs.Wholes.{whole_layout}
 use Rattle.layout_core.proofs.top.layout_alone.Goals as goal
 
 pub returns-in-Err-clause-bad_page : goal.returns-in-Err-clause-bad_page
@@ -55,3 +56,8 @@ returns-clause-limit g c =
     λ plan input page count told spells many calm.
     let none = (c.in-Ok.ensures.limit input page count told spells many calm).0 in
     absurd (cc none)
+
+pub hocr_text-requires : goal.hocr_text-requires
+hocr_text-requires g c =
+    let read = c.in-Ok.ensures.layout in
+    whole_layout read.page c.in-Ok.layout read.is_layout

@@ -1,0 +1,73 @@
+-- The layout of a page can be written.
+use Rattle.std.proofs.Common.{◌≡◌, ℕ, ◌+◌, ◌*◌, ◌<◌, ◌≤◌, eqb, List, [], ◌∷◌, length, map, get_or, sym, ap, ◌∙◌, subst, arith}
+use Rattle.std.specs.Prelude.{All, slice_index}
+use Rattle.std.specs.List.{range_with_len, IsDistinct}
+use Rattle.std.specs.List.Sorted.{IsPermutation}
+use Rattle.std.proofs.lemmas.List.{length-map}
+use Rattle.std.proofs.lemmas.List.FromFn.{get_or-range_with_len, length-range_with_len}
+use Rattle.std.proofs.lemmas.List.Sorted.{All-permutation, length_permutation}
+use Rattle.std.proofs.lemmas.Bool.{false≢true, eq-eqb, ne_eqb}
+use Rattle.std.proofs.lemmas.Bool.Decides.{nat_tests}
+use Rattle.std.proofs.lemmas.Map.Keys.{IsDistinct-from_apart, IsDistinct-IsPermutation, apart_from_distinct}
+use Rattle.page_runs.specs.Page.{Page}
+use Rattle.layout_geom.specs.declared.rect.Rect.{Rect}
+use Rattle.layout_geom.specs.declared.area.Area.{Area}
+use Rattle.layout_geom.specs.declared.order.Order.{Order}
+use Rattle.layout_geom.specs.declared.order.Order.TheVariants.{Topological, Cycle}
+use Rattle.reading_order.specs.Answers.{IsReadingOrder}
+use Rattle.reading_order.specs.Areas.{AreAreasFrom}
+use Rattle.hocr_writer.specs.declared.layout.Layout.{Layout}
+use Rattle.hocr_writer.specs.Listing.{listing, HasEachOnce, NamesLines, SplitListing, IsWhole}
+use Rattle.layout_core.specs.Numbering.{box_of}
+use Rattle.layout_core.specs.Layouts.{IsLayout}
+use Rattle.layout_core.proofs.Inside.{numbered_on_grid}
+
+-- the numbers below a count differ
+rising_distinct : (count : ℕ) → IsDistinct eqb (range_with_len 0 count)
+rising_distinct count =
+    IsDistinct-from_apart eqb (range_with_len 0 count)
+    (λ i j d less within.
+    let size = length-range_with_len 0 count in
+    ne_eqb _ _ (λ e. absurd (omega (arith, e, less, get_or-range_with_len 0 count i d (omega arith), get_or-range_with_len 0 count j d (omega arith)))))
+
+eqb_flips : (x y : ℕ) → eqb x y ≡ eqb y x
+eqb_flips x y = grind (arith, nat_tests)
+
+-- a rearrangement of the numbers below a count has each once
+each_once : (count : ℕ) (numbers : List ℕ) → IsPermutation (range_with_len 0 count) numbers → HasEachOnce count numbers
+each_once count numbers whole =
+    let long : length numbers ≡ count = omega (arith, length_permutation (range_with_len 0 count) numbers whole, length-range_with_len 0 count) in
+    record {
+      long = long;
+      below = All-permutation (λ k. k < count) (range_with_len 0 count) numbers whole
+          (λ k d within. omega (arith, within, length-range_with_len 0 count, get_or-range_with_len 0 count k d (omega (arith, within, length-range_with_len 0 count))));
+      apart = λ i j less within same.
+          let distinct = IsDistinct-IsPermutation eqb eqb_flips (range_with_len 0 count) numbers whole (rising_distinct count) in
+          false≢true (sym (apart_from_distinct eqb numbers i j 0 distinct less within) ∙ eq-eqb (get_or numbers i 0) (get_or numbers j 0) same);
+    }
+
+names : (lines : List Rect) (order : Order) → IsReadingOrder lines order → NamesLines order (length lines)
+names lines (Topological order) is = each_once (length lines) order is.is_order.whole
+names lines (Cycle cycle) is = is.0.is_cycle.within
+
+listing_long : (order : Order) (count : ℕ) → NamesLines order count → length (listing order count) ≡ count
+listing_long (Topological order) count named = named.long
+listing_long (Cycle cycle) count named = length-range_with_len 0 count
+
+split : (lines : List Rect) (listed : List ℕ) (reach from : ℕ) (areas : List Area) → AreAreasFrom lines listed reach from areas → SplitListing from (length listed) areas
+split lines listed reach from [] are = are
+split lines listed reach from (area ∷ areas) are = (are.0.starts, split lines listed reach (from + area.count) areas are.1)
+
+pub whole_layout : (page : Page) (layout : Layout) → IsLayout page layout → IsWhole layout
+whole_layout page layout is =
+    let high : page.height ≤ 8192 = omega (arith, is.sides.bottom, is.whole.sides.bottom) in
+    let boxes = map box_of layout.lines in
+    let size : length boxes ≡ length layout.lines = length-map layout.lines box_of in
+    let P : ℕ → Type 0 = λ count. NamesLines layout.order count in
+    let named : NamesLines layout.order (length layout.lines) = subst P size (names boxes layout.order is.order_is) in
+    let Q : ℕ → Type 0 = λ end. SplitListing 0 end layout.areas in
+    record {
+      order = named;
+      areas = subst Q (listing_long layout.order (length layout.lines) named) (split boxes (listing layout.order (length layout.lines)) (2 * is.kept.median) 0 layout.areas is.areas_are);
+      marks = numbered_on_grid is.kept.boxes layout.gutters page.height high _ is.found layout.lines is.are_lines is.numbered;
+    }

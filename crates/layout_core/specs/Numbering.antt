@@ -1,0 +1,26 @@
+-- The numbers of the text lines of a page.
+use Rattle.std.specs.Prelude.{ℕ, ◌+◌, List, map}
+use Rattle.std.specs.Ordering.{nat_cmp, ordering_then}
+use Rattle.std.specs.declared.cmp.Ordering.{Ordering}
+use Rattle.std.specs.List.Sorted.{IsPermutation, IsSorted, IsStable}
+use Rattle.layout_geom.specs.declared.rect.Rect.{Rect}
+use Rattle.line_search.specs.declared.line.Line.{Line}
+use Rattle.hocr_writer.specs.declared.layout.Mark.{Mark}
+
+-- What the document shows of a line.
+abbrev pub mark_of : Line → Mark
+mark_of line = record { bbox = line.bbox; slope = line.slope; offset = line.offset }
+
+abbrev pub box_of : Mark → Rect
+box_of mark = mark.bbox
+
+-- By the middle row (twice, so that it is a whole number), and then by the left side.
+abbrev pub compare_marks : Mark → Mark → Ordering
+compare_marks first second = ordering_then (nat_cmp (first.bbox.y0 + first.bbox.y1) (second.bbox.y0 + second.bbox.y1)) (nat_cmp first.bbox.x0 second.bbox.x0)
+
+-- The lines in the order of their numbers: by their middles and left sides, and those that tie in the order in
+-- which they were found.
+pub record IsNumbered (found : List Line) (marks : List Mark) : Type 0 where
+  pub rearranged : IsPermutation (map mark_of found) marks
+  pub sorted : IsSorted compare_marks marks
+  pub stable : IsStable compare_marks (map mark_of found) marks
