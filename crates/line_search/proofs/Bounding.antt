@@ -1,18 +1,16 @@
 -- Why the bound of a shape is one.
-use Rattle.std.proofs.Common.{◌≡◌, ℕ, ◌+◌, ◌-◌, ◌*◌, ◌^◌, ◌<◌, ◌≤◌, min, ℤ, pos, negsuc, ◌+ℤ◌, ◌≤ℤ◌, ◌<ℤ◌, unsigned_abs, arith, refl, sym, ◌∙◌, ap, subst, List, length, slice_get, ◌⊎◌, inl, inr}
-use Rattle.std.specs.Prelude.{All}
+use Rattle.std.proofs.Common.{◌≡◌, ℕ, ◌+◌, ◌-◌, ◌*◌, ◌^◌, ◌<◌, ◌≤◌, min, ℤ, pos, negsuc, ◌+ℤ◌, ◌≤ℤ◌, ◌<ℤ◌, unsigned_abs, arith, refl, sym, ◌∙◌, ap, subst, List, slice_get, ◌⊎◌, inl, inr}
 use Rattle.std.proofs.lemmas.Int.{ints, clamps}
 use Rattle.std.specs.List.{sum_by}
-use Rattle.layout_geom.specs.declared.rect.Rect.{Rect}
 use Rattle.box_search.specs.declared.space.Shape.{Shape}
-use Rattle.line_quality.specs.Scores.{group_of, group_weight, weight_of, IsScore}
+use Rattle.line_quality.specs.Scores.{group_weight, weight_of, IsScore}
 use Rattle.line_quality.specs.ScoreLaws.{same_score}
 use Rattle.line_quality.specs.Keys.{line_key, rank}
 use Rattle.line_quality.specs.KeyLaws.{abs_parts}
 use Rattle.line_search.specs.Lines.{IsPoint}
-use Rattle.line_search.specs.Problem.{Problem, HasScore, HasPointOfKey}
-use Rattle.line_search.specs.Shapes.{IsInside, LiesInShape, IsInGrid, IsSingle}
-use Rattle.line_search.specs.Bounds.{total_reach, column_reach, nearest_slope, plain_bound, IsOver, IsBound, HasReaching}
+use Rattle.line_search.specs.Problem.{Problem}
+use Rattle.line_search.specs.Shapes.{IsInside, IsInGrid, IsSingle}
+use Rattle.line_search.specs.Bounds.{total_reach, column_reach, nearest_slope, IsOver, IsBound, HasReaching}
 use Rattle.line_search.specs.GridLaws.{inside_of}
 use Rattle.line_search.specs.Parts.{HasNoPoint}
 use Rattle.line_search.proofs.Reaching.{same_group, same_total}

@@ -8,3 +8,4 @@ pub mod Ranges
 pub mod Steps
 pub mod Rounding
 pub mod Taking
+pub mod Rising

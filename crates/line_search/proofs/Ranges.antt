@@ -1,5 +1,5 @@
 -- Ranges of whole numbers.
-use Rattle.std.proofs.Common.{◌≡◌, ℕ, ◌+◌, ◌-◌, ◌*◌, ◌^◌, ◌<◌, ◌≤◌, ℤ, pos, negsuc, ◌+ℤ◌, ◌-ℤ◌, ◌≤ℤ◌, ◌<ℤ◌, nat_abs, nat_eq, int_lt, int_le, Bool, false, ◌&&◌, true, to_z, of_z, w8, w16, w32, arith, IsTrue, FitsSigned, refl, sym, ◌∙◌, ap}
+use Rattle.std.proofs.Common.{◌≡◌, ℕ, ◌+◌, ◌*◌, ◌^◌, ◌<◌, ◌≤◌, ℤ, pos, negsuc, ◌+ℤ◌, ◌-ℤ◌, ◌≤ℤ◌, ◌<ℤ◌, nat_abs, nat_eq, int_lt, int_le, Bool, false, ◌&&◌, true, to_z, of_z, w8, w16, w32, arith, IsTrue, refl, sym, ◌∙◌}
 use Rattle.std.proofs.lemmas.Int.{ints, clamps, by_lt_z}
 use Rattle.std.proofs.lemmas.Bool.Decides.{nat_tests}
 use Rattle.std.specs.Int.{int_gap, int_max, int_min, int_div_euclid}
@@ -8,7 +8,7 @@ use Rattle.layout_geom.specs.declared.rect.Rect.{Rect}
 use Rattle.line_quality.specs.Points.{height_at, middle_of, IsSlope}
 use Rattle.line_search.specs.Shapes.{IsInGrid, whole_grid}
 use Rattle.line_search.specs.Bounds.{lowest, highest, distance, nearest_slope}
-use Rattle.line_search.specs.Parts.{half, lower_slopes, upper_slopes, lower_offsets, upper_offsets}
+use Rattle.line_search.specs.Parts.{half}
 use Rattle.line_search.proofs.Heights.{int_gap_is}
 use borrow.Author.Differences.{up, down}
 

@@ -8,7 +8,7 @@ use Rattle.std.proofs.lemmas.Bool.Decides.{nat_tests}
 use Rattle.layout_geom.specs.declared.rect.Rect.{Rect}
 use Rattle.box_search.specs.declared.space.Shape.{Shape}
 use Rattle.line_quality.specs.Points.{weight, middle_of, column_of}
-use Rattle.line_quality.specs.Scores.{weight_of, is_of, group_of}
+use Rattle.line_quality.specs.Scores.{is_of, group_of}
 use Rattle.line_search.specs.Problem.{Problem}
 use Rattle.line_search.specs.Shapes.{IsInside}
 use Rattle.line_search.specs.Bounds.{reach, reaching, total_reach, HasReaching}

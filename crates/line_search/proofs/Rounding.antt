@@ -1,14 +1,13 @@
 -- The members of a line, and the least rectangle round them.
-use Rattle.std.proofs.Common.{◌≡◌, ℕ, zero, suc, ◌+◌, ◌-◌, ◌*◌, ◌<◌, ◌≤◌, min, max, arith, refl, sym, ◌∙◌, ap, subst, List, [], ◌∷◌, ◌++◌, length, take, get_or, append-nil, Option, Some, None, slice_get, ℤ, Bool, true, false, cond, not, ◌&&◌, eqb, ltb, All, Any, Contains, IfSome, ⊎_elim}
+use Rattle.std.proofs.Common.{◌≡◌, ℕ, zero, suc, ◌+◌, ◌-◌, ◌*◌, ◌<◌, ◌≤◌, min, max, arith, refl, sym, ◌∙◌, ap, subst, List, [], ◌∷◌, ◌++◌, length, take, get_or, append-nil, Option, Some, slice_get, ℤ, Bool, true, false, not, All, IfSome}
 use Rattle.std.proofs.Math.Nat.{mul-le-mul}
-use Rattle.std.proofs.lemmas.Bool.Decides.{nat_tests}
 use Rattle.std.proofs.lemmas.List.{take_all}
-use Rattle.std.proofs.lemmas.List.Elements.{filter_more, filter-append, All-get_or, All-more, All-weaker, All-nil, All-cons, All-head, All-tail, All-contains_itself, All-filter}
-use Rattle.std.proofs.lemmas.Option.{IfSome_then, slice_get_read}
-use Rattle.std.specs.List.{filter, range_with_len, list_any}
+use Rattle.std.proofs.lemmas.List.Elements.{filter_more, filter-append, All-get_or, All-more, All-weaker, All-nil, All-cons, All-head, All-tail}
+use Rattle.std.proofs.lemmas.Option.{IfSome_then}
+use Rattle.std.specs.List.{filter, range_with_len}
 use Rattle.layout_geom.specs.declared.rect.Rect.{Rect}
 use Rattle.layout_geom.specs.Rectangles.{Encloses, HasSides}
-use Rattle.line_search.specs.Lines.{IsRound, IsLeastRound}
+use Rattle.line_search.specs.Lines.{IsRound}
 
 pub not_true : (b : Bool) → b ≡ true → not b ≡ false
 not_true b e = rw e refl

@@ -1,5 +1,5 @@
 -- The root of the grid, and its steps.
-use Rattle.std.proofs.Common.{◌≡◌, ℕ, zero, suc, ◌+◌, ◌-◌, ◌*◌, ◌^◌, ◌<◌, ◌≤◌, min, ℤ, pos, negsuc, ◌+ℤ◌, ◌-ℤ◌, ◌≤ℤ◌, ◌<ℤ◌, arith, refl, sym, ◌∙◌, ap, subst, List, [], ◌∷◌, ◌++◌, length, Option, Some, None, Bool, true, false, is_some, IfSome, IfNone, All, Any, map, cond, ◌⊎◌, ⊎_elim, inl, inr}
+use Rattle.std.proofs.Common.{◌≡◌, ℕ, ◌-◌, ◌*◌, ◌<◌, ◌≤◌, min, ℤ, pos, negsuc, ◌-ℤ◌, ◌≤ℤ◌, ◌<ℤ◌, arith, refl, sym, subst, List, [], ◌∷◌, ◌++◌, length, Option, Some, None, true, false, is_some, IfSome, IfNone, All, Any, map, cond, ◌⊎◌, ⊎_elim, inl, inr}
 use Rattle.std.proofs.Math.Nat.{mul-lt-mul_of_pos_right, mul-lt-mul_of_pos_left}
 use Rattle.std.proofs.lemmas.Int.{ints, by_lt_z}
 use Rattle.std.proofs.lemmas.List.Elements.{All-nil, All-cons}
@@ -9,11 +9,11 @@ use Rattle.box_search.specs.declared.space.Node.{Node}
 use Rattle.box_search.specs.Search.{IsRoot, Settles, Splits}
 use Rattle.box_search.specs.Shapes.{size, range_length, at_least_zero}
 use Rattle.line_quality.specs.Keys.{line_key}
-use Rattle.line_search.specs.Problem.{Problem, numbers_of, OfProblem, HasScore, HasPointOfKey, IsAdmitted}
+use Rattle.line_search.specs.Problem.{Problem, numbers_of, HasScore, HasPointOfKey, IsAdmitted}
 use Rattle.line_search.specs.ProblemLaws.{on_numbers, of_numbers}
 use Rattle.line_search.specs.Shapes.{IsInside, LiesInShape, IsInGrid, IsSingle, whole_grid}
 use Rattle.line_search.specs.Bounds.{IsOver, HasReaching, IsNodeIn, FitsGrid}
-use Rattle.line_search.specs.Parts.{half, AreHalves, lower_slopes, upper_slopes, lower_offsets, upper_offsets, HasNoPoint, IsGridSplit, IsPointAdmissible}
+use Rattle.line_search.specs.Parts.{half, AreHalves, HasNoPoint, IsGridSplit, IsPointAdmissible}
 use Rattle.line_search.specs.GridLaws.{admitted_here, offset_in}
 use Rattle.line_search.proofs.Heights.{HasCorners}
 use Rattle.line_search.proofs.Bounding.{none_below, lesser_bound, first_inside}

@@ -11,7 +11,7 @@ use Rattle.std.proofs.Common.{not}
 use Rattle.layout_geom.specs.declared.rect.Rect.{Rect}
 use Rattle.box_search.specs.declared.space.Shape.{Shape}
 use Rattle.line_quality.specs.Points.{middle_of}
-use Rattle.line_search.specs.Bounds.{reach, all_cross, sure_column, is_surely, reaching, total_reach, column_reach}
+use Rattle.line_search.specs.Bounds.{reach, all_cross, sure_column, is_surely, total_reach, column_reach}
 
 pub zero_at : (count place : ℕ) → let zero_value : ℕ = 0 in get_or (replicate count zero_value) place zero_value ≡ zero_value
 zero_at count place = ⊎_elim

@@ -1,5 +1,5 @@
 -- What it means to take the best line away.
-use Rattle.std.proofs.Common.{◌≡◌, ℕ, zero, suc, ◌+◌, ◌-◌, ◌*◌, ◌<◌, ◌≤◌, arith, refl, sym, ◌∙◌, ap, subst, append_assoc, append-nil, List, [], ◌∷◌, ◌++◌, length, slice_get, ℤ, Bool, true, false, not, ◌&&◌, nat_eq, ◌==◌, All, Contains, Any, to_z, of_z, w8, w16, ⊎_elim}
+use Rattle.std.proofs.Common.{◌≡◌, ℕ, ◌+◌, ◌<◌, ◌≤◌, arith, refl, sym, ◌∙◌, ap, subst, append_assoc, append-nil, List, [], ◌∷◌, ◌++◌, length, slice_get, ℤ, Bool, true, false, not, ◌&&◌, ◌==◌, All, Contains, to_z, of_z, w8, w16, ⊎_elim}
 use Rattle.std.proofs.lemmas.Int.{ints}
 use Rattle.std.proofs.lemmas.Bool.Decides.{nat_tests}
 use Rattle.std.proofs.lemmas.Map.Views.{any-filter_same}
@@ -14,10 +14,10 @@ use Rattle.line_quality.specs.Scores.{IsScore, group_of, is_of, weight_of}
 use Rattle.line_quality.specs.ScoreLaws.{same_score}
 use Rattle.line_quality.specs.Keys.{line_key, IsLineKey}
 use Rattle.line_search.specs.declared.line.Line.{Line}
-use Rattle.line_search.specs.Lines.{IsPoint, IsScored, IsAdmissible, IsBestLine, IsLeastRound, HasNoLine, IsLineList, without}
-use Rattle.line_search.specs.Problem.{Problem, numbers_of, HasScore, HasPointOfKey, IsAdmitted, IsWithinLimits}
+use Rattle.line_search.specs.Lines.{IsPoint, IsAdmissible, IsBestLine, IsLeastRound, HasNoLine, IsLineList, without}
+use Rattle.line_search.specs.Problem.{Problem, numbers_of, HasPointOfKey, IsAdmitted, IsWithinLimits}
 use Rattle.line_search.specs.ProblemLaws.{on_numbers}
-use Rattle.line_search.specs.GridLaws.{admitted_here, offset_in, grid_positive}
+use Rattle.line_search.specs.GridLaws.{admitted_here, offset_in}
 
 -- the key is the answer for the problem
 abbrev pub IsAnswer : Problem → ℕ → Type 0

@@ -1,5 +1,5 @@
 -- The two parts of a shape, and the steps of the search.
-use Rattle.std.specs.Prelude.{◌≡◌, ◌⊎◌, ℤ, pos, ◌+ℤ◌, ◌≤ℤ◌, Bool, false, cond, List, [], ◌∷◌, ◌++◌, map, ℕ, ◌≤◌}
+use Rattle.std.specs.Prelude.{◌≡◌, ◌⊎◌, ℤ, pos, ◌+ℤ◌, ◌≤ℤ◌, Bool, false, cond, List, [], ◌∷◌, ◌++◌, map, ℕ}
 use Rattle.std.specs.Int.{int_div_euclid}
 use Rattle.box_search.specs.declared.space.Shape.{Shape}
 use Rattle.box_search.specs.declared.space.Node.{Node}

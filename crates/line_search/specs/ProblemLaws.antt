@@ -1,5 +1,5 @@
 -- What holds of all problems: their numbers decide them.
-use Rattle.std.proofs.Common.{◌≡◌, ℕ, List, [], ◌∷◌, ◌++◌, map, length, arith, refl, ◌∙◌, sym, subst, append-nil}
+use Rattle.std.proofs.Common.{◌≡◌, ℕ, List, [], ◌∷◌, ◌++◌, map, length, arith, refl, subst, append-nil}
 use Rattle.std.specs.Prelude.{ℤ, pos}
 use Rattle.layout_geom.specs.declared.rect.Rect.{Rect}
 use Rattle.layout_geom.specs.BoxNumbers.{same_boxes, boxes_numbers}

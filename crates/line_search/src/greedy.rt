@@ -1,5 +1,6 @@
 //! The greedy list of the lines of a page.
 ghost use Rattle.std.specs.Prelude.{◌≡◌, ◌≤◌, IfOk, length, All};
+ghost use Rattle.std.specs.List.Sorted.{IsStrictlyIncreasing};
 ghost use Rattle.layout_geom.specs.declared.rect.Rect.{Rect};
 ghost use Rattle.layout_geom.specs.Rectangles.{Encloses};
 ghost use Rattle.line_search.specs.Lines.{AreLinesOf};
@@ -45,6 +46,7 @@ pub fn lines<F: Searcher>(
     requires high { height ≤ 8192 }
     requires contained { (outer : Rect) × All (Encloses outer) kept.now.boxes }
     ensures lines { IfOk result (AreLinesOf kept.now gutters.now height) }
+    ensures rising { IfOk result (λ lines. All (λ line. IsStrictlyIncreasing line.members) lines) }
 {
     let alive = characters(alloc, kept)?;
     let boxes = copy_of(alloc, &kept.boxes)?;

@@ -10,6 +10,8 @@ mod line;
 mod members;
 mod near;
 mod parts;
+#[cfg(test)]
+mod tests;
 
 pub use greedy::lines;
 pub use grid::Grid;

@@ -1,4 +1,4 @@
-use Rattle.std.proofs.Common.{arith, ◌≡◌, ◌∙◌, refl, sym, int_lt, int_le, pos}
+use Rattle.std.proofs.Common.{arith, ◌≡◌, ◌∙◌, refl, int_lt, int_le, pos}
 use Rattle.line_search.specs.Bounds.{lowest, highest}
 use Rattle.line_quality.specs.Points.{middle_of}
 use Rattle.line_search.proofs.Ranges.{compared, both_hold, first_fails}

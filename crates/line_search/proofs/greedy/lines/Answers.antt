@@ -1,18 +1,21 @@
-use Rattle.std.proofs.Common.{◌∙◌, ap, List, All, subst, sym}
+use Rattle.std.proofs.Common.{◌∙◌, ap, ℕ, List, All, subst, sym}
 use Rattle.layout_geom.specs.declared.rect.Rect.{Rect}
 use Rattle.layout_geom.specs.Rectangles.{Encloses}
-use Rattle.line_search.specs.Lines.{characters_of}
+use Rattle.line_search.specs.Lines.{characters_of, IsLineList}
 use Rattle.line_search.specs.Problem.{Problem}
 use Rattle.line_search.proofs.Taking.{no_line, ended, one_more}
+use Rattle.line_search.proofs.Rising.{characters_rise, members_rise}
 use Rattle.line_search.proofs.greedy.lines.Goals as goal
 
 pub returns-then-key-eq0 : goal.returns-then-key-eq0
 returns-then-key-eq0 g c =
     let so_far = c.loop-lines.invariant in
-    record {
-      lines = ended c.args.kept.now.boxes c.args.gutters.now c.args.height (characters_of c.args.kept.now) c.loop-lines.grid.alive c.loop-lines.lines so_far.ending
-          (rw (so_far.boxes, so_far.gutters, so_far.height) at (no_line c.loop-lines.grid c.in_ok-key.key c.in_ok-key.ensures.greatest c.if-key-eq0.true));
-    }
+    let boxes : List Rect = c.args.kept.now.boxes in
+    let gutters : List Rect = c.args.gutters.now in
+    let start : List ℕ = characters_of c.args.kept.now in
+    let are : IsLineList boxes gutters c.args.height start c.loop-lines.lines = ended boxes gutters c.args.height start c.loop-lines.grid.alive c.loop-lines.lines so_far.ending
+    (rw (so_far.boxes, so_far.gutters, so_far.height) at (no_line c.loop-lines.grid c.in_ok-key.key c.in_ok-key.ensures.greatest c.if-key-eq0.true)) in
+    record { lines = are; rising = members_rise boxes gutters c.args.height start c.loop-lines.lines (characters_rise c.args.kept.now) are }
 
 pub take_line-requires-clause-contained : goal.take_line-requires-clause-contained
 take_line-requires-clause-contained g c =

@@ -1,7 +1,5 @@
-use Rattle.std.proofs.Common.{arith, ◌≡◌, ◌<◌, ◌∙◌, ap, sym, refl, ℕ, Bool, true, false, not, length, get_or, slice_get, Some, to_z, of_z, w8, w16, List, subst, ℤ}
-use Rattle.std.specs.List.{filter}
+use Rattle.std.proofs.Common.{arith, ◌≡◌, ◌<◌, ◌∙◌, ap, sym, refl, ℕ, Bool, true, false, not, length, get_or, slice_get, Some, to_z, of_z, w8, w16, List, ℤ}
 use Rattle.std.proofs.lemmas.Int.{to_z-of_z}
-use Rattle.std.proofs.lemmas.List.{take_all}
 use Rattle.std.proofs.lemmas.List.Elements.{All-get_or}
 use Rattle.std.proofs.lemmas.Option.{slice_get_read}
 use Rattle.line_quality.specs.Scores.{is_of}

@@ -1,8 +1,7 @@
-use Rattle.std.proofs.Common.{arith, ◌≡◌, ◌<◌, ◌∙◌, ap, sym, refl, ℕ, length, get_or, slice_get, Some, subst, take, List}
+use Rattle.std.proofs.Common.{arith, ◌≡◌, ◌<◌, refl, ℕ, length, get_or, slice_get, Some, subst, List}
 use Rattle.std.proofs.lemmas.List.{take_all}
 use Rattle.std.proofs.lemmas.List.Elements.{All-get_or}
 use Rattle.std.proofs.lemmas.Option.{slice_get_read}
-use Rattle.layout_geom.specs.Rectangles.{Encloses}
 use Rattle.line_search.specs.Lines.{IsRound}
 use Rattle.line_search.proofs.Rounding.{hull_small, round_more, least_more, round_all, box_in}
 use Rattle.line_search.proofs.members.least_round.Goals as goal

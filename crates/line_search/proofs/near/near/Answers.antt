@@ -1,13 +1,12 @@
-use Rattle.std.proofs.Common.{arith, ◌≡◌, ◌<◌, ◌≤◌, ◌∙◌, ℕ, ◌+◌, List, Some, cond, eqb, length, get_or, slice_get, refl, sym, ap, subst}
+use Rattle.std.proofs.Common.{arith, ◌≡◌, ◌<◌, ◌≤◌, ◌∙◌, ℕ, ◌+◌, List, Some, cond, eqb, length, get_or, slice_get, refl, sym, ap}
 use Rattle.std.specs.List.{count_by}
 use Rattle.std.specs.Prelude.{nat_le}
 use Rattle.std.proofs.Math.ListN.{length-set}
-use Rattle.std.proofs.lemmas.List.{take_all}
 use Rattle.std.proofs.lemmas.List.Elements.{All-get_or}
 use Rattle.std.proofs.lemmas.Option.{slice_get_read}
 use Rattle.layout_geom.specs.declared.rect.Rect.{Rect}
 use Rattle.line_quality.specs.Points.{middle_of}
-use Rattle.line_search.specs.Bounds.{sure_column, reach, reaching}
+use Rattle.line_search.specs.Bounds.{sure_column, reach}
 use Rattle.line_search.proofs.Sums.{zero_at, column_more, set_sums, at_most, other_column, added_nothing, kept_more, kept_same, can_weigh, weighs_nothing, column_by_middles, of_front, IsGreatestSum, column_below, at_end}
 use Rattle.line_search.proofs.near.near.Goals as goal
 use Rattle.line_search.proofs.near.near.Goals.{then-weight-gt0+in_ok-push, else-weight-gt0}

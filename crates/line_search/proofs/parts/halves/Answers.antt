@@ -1,4 +1,4 @@
-use Rattle.std.proofs.Common.{arith, inl, inr, refl, ◌-ℤ◌, ◌≤ℤ◌}
+use Rattle.std.proofs.Common.{arith, inl, inr, ◌-ℤ◌, ◌≤ℤ◌}
 use Rattle.std.proofs.lemmas.Int.{ints}
 use Rattle.line_search.specs.Parts.{lower_slopes, upper_slopes, lower_offsets, upper_offsets}
 use Rattle.line_search.proofs.Ranges.{long_enough, kept_in, offsets_cut, slopes_cut, same_shape}

@@ -1,7 +1,5 @@
-use Rattle.std.proofs.Common.{arith, refl, true, false, ◌≡◌, ◌∙◌, ap, subst, sym, ℕ, ℤ, List, to_z, of_z, w8, w16}
+use Rattle.std.proofs.Common.{arith, refl, true, false, ◌≡◌, ◌∙◌, ap, subst, sym, ℤ}
 use Rattle.std.proofs.lemmas.Int.{ints}
-use Rattle.layout_geom.specs.declared.rect.Rect.{Rect}
-use Rattle.line_quality.specs.Scores.{IsScore}
 use Rattle.line_quality.specs.Points.{IsSlope}
 use Rattle.line_search.specs.Problem.{Problem}
 use Rattle.line_search.specs.Shapes.{IsInGrid, IsSingle}

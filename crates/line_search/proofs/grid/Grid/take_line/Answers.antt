@@ -1,4 +1,4 @@
-use Rattle.std.proofs.Common.{arith, ◌≡◌, ◌<◌, ◌∙◌, ap, sym, ℕ, List, length, subst, All, not, slice_get, to_z, of_z, w8, w16}
+use Rattle.std.proofs.Common.{◌<◌, ◌∙◌, ap, sym, ℕ, List, length, subst, All, not, slice_get, to_z, of_z, w8, w16}
 use Rattle.layout_geom.specs.declared.rect.Rect.{Rect}
 use Rattle.layout_geom.specs.Rectangles.{Encloses}
 use Rattle.line_quality.specs.Scores.{is_of}

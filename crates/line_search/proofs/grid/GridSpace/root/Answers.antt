@@ -1,4 +1,4 @@
-use Rattle.std.proofs.Common.{arith, ap, ◌≡◌, ◌≤◌, ◌∙◌, ℕ}
+use Rattle.std.proofs.Common.{arith, ap, ◌≡◌, ◌∙◌}
 use Rattle.line_search.specs.Problem.{Problem}
 use Rattle.line_search.proofs.Steps.{root_is}
 use Rattle.line_search.proofs.Ranges.{foot_is}

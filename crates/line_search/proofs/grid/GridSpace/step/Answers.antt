@@ -1,6 +1,5 @@
-use Rattle.std.proofs.Common.{arith, ◌≡◌, refl, inl, inr, true, false}
-use Rattle.line_search.proofs.Bounding.{wider}
-use Rattle.line_search.proofs.Steps.{fits_here, settles_is, settled_score, nothing_is, no_score, handed_on, splits_is, cut_is}
+use Rattle.std.proofs.Common.{◌≡◌, refl, inl, inr, true, false}
+use Rattle.line_search.proofs.Steps.{settles_is, settled_score, nothing_is, no_score, handed_on, splits_is, cut_is}
 use Rattle.line_search.proofs.grid.GridSpace.step.Goals as goal
 
 pub returns-then-node-lt-LEAST_KEY-clause-step : goal.returns-then-node-lt-LEAST_KEY-clause-step
