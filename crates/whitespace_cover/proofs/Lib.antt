@@ -4,3 +4,4 @@ pub mod Near
 pub mod Cutting
 pub mod Steps
 pub mod Covering
+pub mod Barring

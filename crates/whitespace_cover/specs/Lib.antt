@@ -1,5 +1,6 @@
 -- What the greatest white rectangle of a page is, its greedy cover, and the boxes in which a rectangle is searched.
 pub mod Admissible
+pub mod Bars
 pub mod Cover
 pub mod Problem
 pub mod Regions

@@ -2,6 +2,7 @@
 //! white space by such rectangles.
 #![tactic(auto)]
 
+mod bars;
 mod greedy;
 mod region;
 #[cfg(test)]
