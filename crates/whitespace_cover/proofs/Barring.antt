@@ -23,7 +23,7 @@ back_clear : (r : Rect) (xs ys : List Rect) → IsClear r (xs ++ ys) → IsClear
 back_clear r [] ys clear = clear
 back_clear r (x ∷ xs) ys clear = back_clear r xs ys (All-tail (λ box. Overlaps r box → ⊥) x (xs ++ ys) clear)
 
-both_clear : (r : Rect) (xs ys : List Rect) → IsClear r xs → IsClear r ys → IsClear r (xs ++ ys)
+pub both_clear : (r : Rect) (xs ys : List Rect) → IsClear r xs → IsClear r ys → IsClear r (xs ++ ys)
 both_clear r xs ys = All-append (λ box. Overlaps r box → ⊥) xs ys
 
 one_clear : (r x : Rect) → IsClear r (x ∷ []) → Overlaps r x → ⊥

@@ -31,16 +31,15 @@ pub fn cover<F: Searcher>(
     requires boxes { length boxes.now ≤ 60000 }
     ensures cover { IfOk result (IsCover page boxes.now least count) }
 {
-    let mut obstacles = bars(alloc, boxes, least)?;
+    let obstacles = bars(alloc, boxes, least)?;
+    let mut white = White::indexed(alloc, page, obstacles, least)?;
     let mut rects = Rects::new(alloc);
     for _ in 0..count {
-        let white = White::new(page, obstacles, least);
         let key = searcher.best(alloc, run, &white)?;
         let Some(rect) = Rect::of_key(key) else {
             return Ok(rects);
         };
-        obstacles = white.into_obstacles();
-        obstacles.push(rect)?;
+        white.push(rect)?;
         rects.push(rect)?;
     }
     Ok(rects)

@@ -3,7 +3,9 @@
 #![tactic(auto)]
 
 mod bars;
+mod cells;
 mod greedy;
+mod pivot;
 mod region;
 #[cfg(test)]
 mod tests;
@@ -11,5 +13,4 @@ mod white;
 
 pub use greedy::cover;
 pub use layout_geom::OutOfMemory;
-pub use region::Region;
 pub use white::White;
