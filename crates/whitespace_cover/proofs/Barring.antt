@@ -1,5 +1,5 @@
 -- What leaves the same white space: the joint of two rectangles in place of one of them, an order, an exchange of columns and rows.
-use Rattle.std.proofs.Common.{◌≡◌, ℕ, ◌+◌, ◌*◌, ◌-◌, ◌<◌, ◌≤◌, ◌⊎◌, ◌↔◌, List, [], ◌∷◌, ◌++◌, length, get_or, set, max, All, Contains, arith, sym, ◌∙◌, subst, inl, inr, ⊎_elim, refl, get_or-set_same, get_or-set_other, length-append, length-set, take}
+use Rattle.std.proofs.Common.{◌≡◌, ℕ, ◌+◌, ◌-◌, ◌<◌, ◌↔◌, List, [], ◌∷◌, ◌++◌, length, get_or, set, Contains, arith, sym, subst, ⊎_elim, refl, get_or-set_same, get_or-set_other, length-append, length-set, take}
 use Rattle.std.specs.List.{AllZip}
 use Rattle.std.specs.List.Sorted.{IsPermutation}
 use Rattle.std.proofs.Math.ListN.{get_or-append}
@@ -9,8 +9,7 @@ use Rattle.std.proofs.lemmas.List.{take_more}
 use Rattle.std.proofs.lemmas.List.Elements.{at_read, All-nil, All-cons, All-head, All-tail, All-append, All-push, All-set, All-contains}
 use Rattle.std.proofs.lemmas.List.Sorted.{All-permutation, IsPermutation-sym}
 use Rattle.layout_geom.specs.declared.rect.Rect.{Rect}
-use Rattle.layout_geom.specs.Sides.{AreSides}
-use Rattle.layout_geom.specs.Rectangles.{width_of, height_of, Overlaps, Encloses, IsClear, HasSides}
+use Rattle.layout_geom.specs.Rectangles.{Overlaps, Encloses, IsClear}
 use Rattle.whitespace_cover.specs.Admissible.{IsRoomy, IsAdmissible, IsFull, IsBestRect}
 use Rattle.whitespace_cover.specs.Bars.{IsJoint, Blocks, LeaveSame, IsTurned}
 

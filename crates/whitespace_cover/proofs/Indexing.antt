@@ -1,5 +1,5 @@
 -- How cells come to be an index of rectangles, and what an index says of the rectangles that overlap another.
-use Rattle.std.proofs.Common.{◌≡◌, ℕ, ◌+◌, ◌*◌, ◌-◌, ◌/◌, ◌<◌, ◌≤◌, ◌⊎◌, List, [], ◌∷◌, ◌++◌, length, get_or, set, max, min, take, drop, All, Any, Contains, arith, ap, sym, ◌∙◌, subst, inl, inr, ⊎_elim, refl, zero, suc, get_or-set_same, get_or-set_other, length-set}
+use Rattle.std.proofs.Common.{◌≡◌, ℕ, ◌+◌, ◌*◌, ◌-◌, ◌/◌, ◌<◌, ◌≤◌, ◌⊎◌, List, [], ◌∷◌, ◌++◌, length, get_or, set, max, min, take, drop, All, Any, Contains, arith, ap, sym, ◌∙◌, subst, inl, inr, ⊎_elim, refl, get_or-set_same, get_or-set_other, length-set}
 use Rattle.std.proofs.lemmas.List.{take_more, take-append-drop, get_or_past, get_or_default}
 use Rattle.std.proofs.lemmas.List.Elements.{All-contains, Contains-append_left, Contains-append_right, Contains-push, Contains-push_cases, Contains-get_or}
 use Rattle.std.proofs.lemmas.Bool.{cases_lt}

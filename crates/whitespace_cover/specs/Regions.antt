@@ -1,5 +1,5 @@
 -- The boxes in which the greatest white rectangle is searched, and how they are cut.
-use Rattle.std.specs.Prelude.{◌≡◌, ℕ, ◌<◌, ℤ, pos, ◌≤ℤ◌, List, length, slice_index_or, Option, Some, None, All, Contains, cond, nat_le, ◌&&◌}
+use Rattle.std.specs.Prelude.{◌≡◌, ℕ, ℤ, pos, ◌≤ℤ◌, List, Option, Some, None, Contains, cond, nat_le, ◌&&◌}
 use Rattle.std.specs.List.{filter_map, AllZip}
 use Rattle.layout_geom.specs.declared.rect.Rect.{Rect}
 use Rattle.layout_geom.specs.Rectangles.{width_of, height_of, Overlaps, Encloses, IsCut, IsClear}

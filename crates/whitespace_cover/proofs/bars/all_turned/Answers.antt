@@ -1,7 +1,4 @@
-use Rattle.std.proofs.Common.{List, take}
-use Rattle.std.specs.List.{AllZip}
 use Rattle.std.proofs.lemmas.List.Elements.{all_zip_more}
-use Rattle.layout_geom.specs.declared.rect.Rect.{Rect}
 use Rattle.whitespace_cover.specs.Bars.{IsTurned}
 use Rattle.whitespace_cover.proofs.bars.all_turned.Goals as goal
 

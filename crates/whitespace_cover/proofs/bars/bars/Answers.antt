@@ -1,4 +1,4 @@
-use Rattle.std.proofs.Common.{◌≡◌, List, sym, ◌∙◌, subst, ap}
+use Rattle.std.proofs.Common.{◌≡◌, List, sym, ◌∙◌, subst}
 use Rattle.std.specs.List.{AllZip}
 use Rattle.layout_geom.specs.declared.rect.Rect.{Rect}
 use Rattle.whitespace_cover.specs.Bars.{LeaveSame, IsTurned}

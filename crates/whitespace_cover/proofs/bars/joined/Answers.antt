@@ -1,5 +1,4 @@
-use Rattle.std.proofs.Common.{◌≡◌, ◌*◌, ◌≤◌, arith, ap, List, length, subst, sym, ◌∙◌}
-use Rattle.std.specs.List.Sorted.{IsPermutation}
+use Rattle.std.proofs.Common.{arith, ap, List, length, subst}
 use Rattle.std.proofs.lemmas.List.Sorted.{IsPermutation-sym}
 use Rattle.layout_geom.specs.declared.rect.Rect.{Rect}
 use Rattle.whitespace_cover.specs.Bars.{LeaveSame}

@@ -1,6 +1,4 @@
 use Rattle.std.proofs.Common.{arith, ◌<◌, length, length-set}
-use Rattle.std.proofs.lemmas.List.Elements.{Contains-get_or}
-use Rattle.layout_geom.specs.declared.rect.Rect.{Rect}
 use Rattle.whitespace_cover.proofs.Barring.{contains_set, joint_taken}
 use Rattle.whitespace_cover.proofs.bars.take_in.Goals as goal
 

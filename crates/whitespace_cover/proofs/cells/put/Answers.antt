@@ -1,4 +1,3 @@
-use Rattle.std.proofs.Common.{arith}
 use Rattle.whitespace_cover.proofs.Indexing.{adds_chain, above_more}
 use Rattle.whitespace_cover.proofs.cells.put.Goals as goal
 

@@ -1,6 +1,6 @@
 use Rattle.std.proofs.Common.{List, Any, arith, sym, subst}
 use Rattle.layout_geom.specs.declared.rect.Rect.{Rect}
-use Rattle.layout_geom.specs.Rectangles.{Encloses, HasSides}
+use Rattle.layout_geom.specs.Rectangles.{Encloses}
 use Rattle.whitespace_cover.specs.Index.{Holds}
 use Rattle.whitespace_cover.proofs.Indexing.{held_by_outer, in_part, held_last}
 use Rattle.whitespace_cover.proofs.cells.put_in_cell.Goals as goal

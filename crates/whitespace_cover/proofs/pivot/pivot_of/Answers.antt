@@ -1,10 +1,10 @@
-use Rattle.std.proofs.Common.{ℕ, List, Option, Some, None, Contains, IfNone, IfSome, take, drop, ap, sym, ◌∙◌, subst}
+use Rattle.std.proofs.Common.{ℕ, List, Option, Some, None, Contains, IfNone, take, subst}
 use Rattle.std.proofs.lemmas.Option.{IfSome_then}
 use Rattle.layout_geom.specs.declared.rect.Rect.{Rect}
-use Rattle.layout_geom.specs.Rectangles.{Overlaps, HasPixel, IsClear}
+use Rattle.layout_geom.specs.Rectangles.{HasPixel, IsClear}
 use Rattle.whitespace_cover.specs.declared.cells.Cells.{Cells}
 use Rattle.whitespace_cover.specs.Index.{cell_of, list_at, IsIndexOf, IsIndexed}
-use Rattle.whitespace_cover.proofs.Indexing.{clear_by_cells, clear_of_all, among_first, among_last}
+use Rattle.whitespace_cover.proofs.Indexing.{clear_by_cells, clear_of_all, among_first}
 use Rattle.whitespace_cover.proofs.pivot.pivot_of.Goals as goal
 
 none_then : (P Q : Type 0) → (P → Q) → (o : Option Rect) → IfNone o P → IfNone o Q

@@ -1,4 +1,4 @@
-use Rattle.std.proofs.Common.{◌∙◌, ℕ, List, Option, Contains, ap, subst, sym}
+use Rattle.std.proofs.Common.{◌∙◌, ℕ, List, Contains, ap, subst, sym}
 use Rattle.std.specs.List.{AllZip}
 use Rattle.layout_geom.specs.declared.rect.Rect.{Rect}
 use Rattle.layout_geom.specs.Rectangles.{IsClear}
