@@ -1,7 +1,8 @@
 -- How cells come to be an index of rectangles, and what an index says of the rectangles that overlap another.
-use Rattle.std.proofs.Common.{◌≡◌, ℕ, ◌+◌, ◌*◌, ◌-◌, ◌/◌, ◌<◌, ◌≤◌, ◌⊎◌, List, [], ◌∷◌, ◌++◌, length, get_or, set, max, min, take, drop, All, Any, Contains, arith, ap, sym, ◌∙◌, subst, inl, inr, ⊎_elim, refl, get_or-set_same, get_or-set_other, length-set}
-use Rattle.std.proofs.lemmas.List.{take_more, take-append-drop, get_or_past, get_or_default}
+use Rattle.std.proofs.Common.{zero, suc, add-one, ◌≡◌, ℕ, ◌+◌, ◌*◌, ◌-◌, ◌/◌, ◌<◌, ◌≤◌, ◌⊎◌, List, [], ◌∷◌, ◌++◌, length, get_or, set, max, min, take, drop, All, Any, Contains, arith, ap, sym, ◌∙◌, subst, inl, inr, ⊎_elim, refl, get_or-set_same, get_or-set_other, length-set}
+use Rattle.std.proofs.lemmas.List.{take-append-drop, get_or_past, get_or_default}
 use Rattle.std.proofs.lemmas.List.Elements.{All-contains, Contains-append_left, Contains-append_right, Contains-push, Contains-push_cases, Contains-get_or}
+use Rattle.std.proofs.Math.Seq.{drop-cons}
 use Rattle.std.proofs.lemmas.Bool.{cases_lt}
 use Rattle.layout_geom.specs.declared.rect.Rect.{Rect}
 use Rattle.layout_geom.specs.Rectangles.{HasPixel, HasSides, Overlaps, Encloses, SharesPixel, IsClear}
@@ -18,13 +19,6 @@ held_before xs ys x y (k, r, within, at, has) = held_by (xs ++ ys) r x y (Contai
 
 pub held_last : (xs : List Rect) (r : Rect) (x y : ℕ) → HasPixel r x y → Holds (xs ++ r ∷ []) x y
 held_last xs r x y has = held_by (xs ++ r ∷ []) r x y (Contains-push xs r) has
-
-held_cases : (xs : List Rect) (r : Rect) (x y : ℕ) → Holds (xs ++ r ∷ []) x y → Holds xs x y ⊎ HasPixel r x y
-held_cases xs r x y (k, q, within, at, has) =
-    ⊎_elim
-    (λ before. inl (held_by xs q x y before has))
-    (λ last. inr (subst (λ (s : Rect). HasPixel s x y) (sym last) has))
-    (Contains-push_cases xs r q (k, within, at))
 
 -- a rectangle of the list round a part has the part's pixels
 pub held_by_outer : (xs : List Rect) (part : Rect) (x y : ℕ) → Any (λ r. Encloses r part) xs → HasPixel part x y → Holds xs x y
@@ -140,22 +134,27 @@ index_of_none lists whole empty = record {
   complete = λ x y held. absurd (held_none x y held);
 }
 
--- one rectangle more
-pub index_more : (rects : List Rect) (i : ℕ) (rect : Rect) (old new : List (List Rect)) → i < length rects → rect ≡ get_or rects i rect → IsIndex (take i rects) old → Adds rect old new → ((x y : ℕ) → HasPixel rect x y → Holds (list_at new (cell_of x y)) x y) → IsIndex (take (i + 1) rects) new
+held_either : (r : Rect) (rects : List Rect) (x y : ℕ) → Holds (r ∷ rects) x y → HasPixel r x y ⊎ Holds rects x y
+held_either r rects x y (zero, q, within, at, has) = inl (subst (λ (s : Rect). HasPixel s x y) (sym at) has)
+held_either r rects x y (suc k, q, within, at, has) = inr (k, q, omega arith, at, has)
+
+-- one rectangle more, the one before the others
+pub index_more : (rects : List Rect) (i : ℕ) (rect : Rect) (old new : List (List Rect)) → i < length rects → rect ≡ get_or rects i rect → IsIndex (drop (i + 1) rects) old → Adds rect old new → ((x y : ℕ) → HasPixel rect x y → Holds (list_at new (cell_of x y)) x y) → IsIndex (drop i rects) new
 index_more rects i rect old new within is index adds taken =
-    let more : take (i + 1) rects ≡ take i rects ++ rect ∷ [] = take_more rects i rect within ∙ ap (λ (r : Rect). take i rects ++ r ∷ []) (sym is) in
+    let behind : List Rect = drop (i + 1) rects in
+    let more : drop i rects ≡ rect ∷ behind = drop-cons rects i rect within ∙ ap (λ (r : Rect). r ∷ drop (suc i) rects) (sym is) ∙ ap (λ (n : ℕ). rect ∷ drop n rects) (sym (add-one i)) in
     subst (λ (xs : List Rect). IsIndex xs new) (sym more) (record {
       whole = adds.whole ∙ index.whole;
       only = λ cell r there.
           ⊎_elim
-          (λ before. Contains-append_left (take i rects) (rect ∷ []) r (index.only cell r before))
-          (λ last. subst (λ (q : Rect). Contains (take i rects ++ rect ∷ []) q) (sym last) (Contains-push (take i rects) rect))
+          (λ before. Contains-append_right (rect ∷ []) behind r (index.only cell r before))
+          (λ last. subst (λ (q : Rect). Contains (rect ∷ behind) q) (sym last) (0, omega arith, refl))
           (adds.only cell r there);
       complete = λ x y held.
           ⊎_elim
+          (λ here. taken x y here)
           (λ before. adds.kept (cell_of x y) x y (index.complete x y before))
-          (λ last. taken x y last)
-          (held_cases (take i rects) rect x y held);
+          (held_either rect behind x y held);
     })
 
 -- each place is taken from the middle outwards

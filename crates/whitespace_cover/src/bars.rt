@@ -124,12 +124,14 @@ fn all_turned(alloc: Global, rects: &[Rect]) -> Result<Vec<Rect>, OutOfMemory>
 /// size has room between them, and so do those of a column.
 ///
 /// A rectangle of at least `least` columns and rows overlaps a bar exactly where it overlaps a box.
-/// Fewer and longer obstacles make a search for white space shorter.
+/// Fewer and longer obstacles make a search for white space shorter. The smallest bar comes first.
 pub(crate) fn bars(alloc: Global, boxes: &Rects, least: u16) -> Result<Rects, OutOfMemory>
     requires { length boxes.now ≤ 60000 }
     ensures { IfOk result (λ bars. LeaveSame least bars boxes.now) }
 {
     let lines = joined(alloc, Vec::from_slice(alloc, boxes.as_slice())?, least)?;
     let columns = joined(alloc, all_turned(alloc, &lines)?, least)?;
-    Ok(Rects::from_vec(all_turned(alloc, &columns)?))
+    let mut bars = all_turned(alloc, &columns)?;
+    bars.sort_unstable_by_key(|bar| bar.area());
+    Ok(Rects::from_vec(bars))
 }

@@ -106,14 +106,14 @@ fn put(lists: &mut [Rects], rect: &Rect) -> Result<(), OutOfMemory>
     Ok(())
 }
 
-/// Lists rectangles in the cells.
+/// Lists rectangles in the cells, the last of them first.
 fn put_all(lists: &mut [Rects], rects: &[Rect]) -> Result<(), OutOfMemory>
     requires whole { length lists.old ≡ 16384 }
     requires empty { All (λ list. list ≡ []) lists.old }
     ensures { OnOk result (IsIndex rects.now lists.new) }
 {
-    for rect in rects {
-        put(lists, rect)?;
+    for done in 0..rects.len() {
+        put(lists, &rects[rects.len() - 1 - done])?;
     }
     Ok(())
 }
@@ -156,16 +156,16 @@ fn pivot_in_row(lists: &[Rects], row: usize, least: u16, rect: &Rect) -> Option<
 impl Cells {
     ghost use Rattle.whitespace_cover.specs.Index.{IsIndexOf};
 
-    /// An index of rectangles.
-    pub(crate) fn new(alloc: Global, rects: &[Rect]) -> Result<Cells, OutOfMemory>
+    /// An index of the first rectangles of a list. Where it goes from smaller to larger ones, the cells
+    /// list fewer.
+    pub(crate) fn new(alloc: Global, rects: &[Rect], count: usize) -> Result<Cells, OutOfMemory>
+        requires { count ≤ length rects.now }
         ensures { IfOk result (IsIndexOf rects.now) }
     {
+        let (front, _) = rects.split_at(count);
         let mut lists = empty_lists(alloc)?;
-        put_all(&mut lists, rects)?;
-        Ok(Cells {
-            count: rects.len(),
-            lists,
-        })
+        put_all(&mut lists, front)?;
+        Ok(Cells { count, lists })
     }
 }
 

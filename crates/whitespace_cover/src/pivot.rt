@@ -49,8 +49,7 @@ pub(crate) fn best_pivot(least: u16, obstacles: &[Rect], rect: &Rect) -> Option<
 }
 
 /// The obstacle to cut a rectangle at. Any that overlaps it would do; this one keeps the search short:
-/// the best of those behind the index, which are the greatest where a cover adds what it found, and
-/// else the best of a cell near the middle.
+/// the best of those behind the index, and else the best of a cell near the middle.
 pub(crate) fn pivot_of(
     least: u16,
     obstacles: &[Rect],

@@ -7,6 +7,10 @@ use layout_geom::{OutOfMemory, Rect, Rects};
 use std::alloc::Global;
 use std::marker::Model;
 
+/// How many of the last obstacles are looked at before the index, as those that are pushed later are: large
+/// ones leave little to search.
+const LOOKED_AT_FIRST: usize = 16;
+
 /// The rectangles of a page that overlap no obstacle and have at least a least size, to be searched
 /// for the one of greatest key: Breuel's search for the greatest white rectangle (2002).
 #[derive(Drop)]
@@ -47,7 +51,8 @@ impl White {
         }
     }
 
-    /// The same with an index, by which a search finds the obstacles near a rectangle.
+    /// The same with an index, by which a search finds the obstacles near a rectangle. A search is shorter
+    /// where the obstacles go from smaller to larger ones.
     pub fn indexed(
         alloc: Global,
         page: Rect,
@@ -58,7 +63,8 @@ impl White {
         ensures obstacles { IfOk result (λ white. white.obstacles ≡ obstacles) }
         ensures least { IfOk result (λ white. white.least ≡ least) }
     {
-        let cells = Some(Cells::new(alloc, obstacles.as_slice())?);
+        let count = obstacles.len().saturating_sub(LOOKED_AT_FIRST);
+        let cells = Some(Cells::new(alloc, obstacles.as_slice(), count)?);
         Ok(White {
             page,
             obstacles,
