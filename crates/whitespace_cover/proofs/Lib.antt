@@ -1,6 +1,7 @@
 -- Lemmas of the search for the greatest white rectangle and of the greedy cover.
 pub mod Mapped
-pub mod Near
 pub mod Cutting
 pub mod Steps
 pub mod Covering
+pub mod Barring
+pub mod Indexing

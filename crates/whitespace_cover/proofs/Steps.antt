@@ -13,16 +13,15 @@ use Rattle.box_search.specs.declared.space.Shape.{Shape}
 use Rattle.box_search.specs.declared.space.Node.{Node}
 use Rattle.box_search.specs.Shapes.{size, range_length, at_least_zero}
 use Rattle.box_search.specs.Search.{AdmitsNone, IsRoot, Settles, Splits}
-use Rattle.whitespace_cover.specs.declared.region.Region.{Region}
 use Rattle.whitespace_cover.specs.Admissible.{IsRoomy}
 use Rattle.whitespace_cover.specs.Problem.{Problem, numbers_of, HasRectOfKey, IsAdmitted}
-use Rattle.whitespace_cover.specs.Regions.{shape_of, IsWithin, LiesInShape, HasNear, IsNodeOf, IsRegionNode, IsNodeIn, FitsWhite, roomy_parts}
+use Rattle.whitespace_cover.specs.Regions.{shape_of, IsWithin, LiesInShape, IsNodeOf, IsRectNode, IsNodeIn, FitsWhite, roomy_parts}
 use Rattle.whitespace_cover.specs.WhiteLaws.{on_numbers, of_numbers, enclosed, within_shape}
 use Rattle.whitespace_cover.proofs.Cutting.{IsSmaller, IsFourSmaller, cut_smaller, kept_all, few_kept}
 use Rattle.whitespace_cover.proofs.Mapped.{All-of_map}
 
-abbrev pub rect_of : Node Region → Rect
-rect_of node = node.work.rect
+abbrev pub rect_of : Node Rect → Rect
+rect_of node = node.work
 
 encloses_itself : (r : Rect) → Encloses r r
 encloses_itself r = record { left = omega arith; top = omega arith; right = omega arith; bottom = omega arith }
@@ -38,22 +37,21 @@ unfolding size
 size_of_shape r = rw (range_between r.x0 r.x1 r.sides.wide, range_between r.y0 r.y1 r.sides.high) (omega arith)
 
 -- the nodes are those of their rectangles
-pub outlines_of : (obstacles : List Rect) (nodes : List (Node Region)) → All (IsRegionNode obstacles) nodes → AllZip IsNodeOf (map rect_of nodes) nodes
-outlines_of obstacles [] all = tt
-outlines_of obstacles (node ∷ nodes) all =
-    ((All-head (IsRegionNode obstacles) node nodes all).outline, outlines_of obstacles nodes (All-tail (IsRegionNode obstacles) node nodes all))
+pub outlines_of : (nodes : List (Node Rect)) → All IsRectNode nodes → AllZip IsNodeOf (map rect_of nodes) nodes
+outlines_of [] all = tt
+outlines_of (node ∷ nodes) all = (All-head IsRectNode node nodes all, outlines_of nodes (All-tail IsRectNode node nodes all))
 
 module _ (p : Problem) where
   abbrev Admits : ℕ → Type 0
   Admits key = IsAdmitted (numbers_of p) key
 
-  abbrev Fits : Node Region → Type 0
+  abbrev Fits : Node Rect → Type 0
   Fits node = FitsWhite (numbers_of p) node
 
-  pub root_is : (node : Node Region) → node.work.rect ≡ p.page → IsNodeOf node.work.rect node → HasNear p.obstacles p.page node.work.near → IsRoomy p.least p.page → IsRoot Admits LiesInShape Fits node
-  root_is node whole outline near roomy = record {
+  pub root_is : (node : Node Rect) → node.work ≡ p.page → IsNodeOf node.work node → IsRoomy p.least p.page → IsRoot Admits LiesInShape Fits node
+  root_is node whole outline roomy = record {
     fitting = on_numbers (IsNodeIn node) p (record {
-      region = record { outline = outline; near = subst (λ (r : Rect). HasNear p.obstacles r node.work.near) (sym whole) near };
+      outline = outline;
       inside = subst (λ (r : Rect). Encloses p.page r) (sym whole) (encloses_itself p.page);
       roomy = subst (λ (r : Rect). IsRoomy p.least r) (sym whole) roomy;
     });
@@ -74,17 +72,17 @@ module _ (p : Problem) where
         high = omega (arith, has.admissible.roomy.high, has.admissible.inside.top, has.admissible.inside.bottom);
       })
 
-  pub settles_is : (node : Node Region) → IsNodeIn node p → IsClear node.work.rect p.obstacles → Settles Admits LiesInShape Fits node node.bound
+  pub settles_is : (node : Node Rect) → IsNodeIn node p → IsClear node.work p.obstacles → Settles Admits LiesInShape Fits node node.bound
   settles_is node fit clear = record {
     admitted = on_numbers (HasRectOfKey node.bound) p (record {
-      rect = node.work.rect;
-      has_key = sym fit.region.outline.bound;
+      rect = node.work;
+      has_key = sym fit.outline.bound;
       admissible = record { inside = fit.inside; clear = clear; roomy = fit.roomy };
     });
     inside = record {
-      rect = node.work.rect;
-      has_key = sym fit.region.outline.bound;
-      within = subst (λ (s : Shape). IsWithin s node.work.rect) (sym fit.region.outline.shape) (within_shape node.work.rect node.work.rect (encloses_itself node.work.rect));
+      rect = node.work;
+      has_key = sym fit.outline.bound;
+      within = subst (λ (s : Shape). IsWithin s node.work) (sym fit.outline.shape) (within_shape node.work node.work (encloses_itself node.work));
     };
     is_bound = refl;
   }
@@ -94,15 +92,15 @@ module _ (p : Problem) where
     pub part : IsSmaller r q
     pub roomy : IsRoomy p.least q
 
-  kept_nodes : (r pivot : Rect) (parts : List (Option Rect)) (nodes : List (Node Region)) → Overlaps r pivot → IsCut r pivot parts → map rect_of nodes ≡ roomy_parts p.least parts → All (λ node. IsKept r node.work.rect) nodes
+  kept_nodes : (r pivot : Rect) (parts : List (Option Rect)) (nodes : List (Node Rect)) → Overlaps r pivot → IsCut r pivot parts → map rect_of nodes ≡ roomy_parts p.least parts → All (λ node. IsKept r node.work) nodes
   kept_nodes r pivot parts nodes meets cut rects =
       All-of_map rect_of (IsKept r) nodes
       (subst (λ (rs : List Rect). All (IsKept r) rs) (sym rects)
       (kept_all p.least (IsKept r) (IsSmaller r) (λ q part roomy. record { part = part; roomy = roomy }) parts (cut_smaller r pivot meets parts cut).smaller))
 
-  fits_in : (r : Rect) (node : Node Region) → Encloses p.page r → IsKept r node.work.rect → IsRegionNode p.obstacles node → Fits node
-  fits_in r node inside kept region = on_numbers (IsNodeIn node) p (record {
-    region = region;
+  fits_in : (r : Rect) (node : Node Rect) → Encloses p.page r → IsKept r node.work → IsRectNode node → Fits node
+  fits_in r node inside kept outline = on_numbers (IsNodeIn node) p (record {
+    outline = outline;
     inside = record {
       left = omega (arith, inside.left, kept.part.inside.left);
       top = omega (arith, inside.top, kept.part.inside.top);
@@ -112,38 +110,38 @@ module _ (p : Problem) where
     roomy = kept.roomy;
   })
 
-  found : (key : ℕ) (r : Rect) → rect_key r ≡ key → (nodes : List (Node Region)) → All (IsRegionNode p.obstacles) nodes → Any (λ node. Encloses node.work.rect r) nodes → Any (λ node. LiesInShape key node.shape) nodes
-  found key r is nodes regions (k, node, within, at, round) =
-      let region : IsRegionNode p.obstacles node = subst (IsRegionNode p.obstacles) at (regions k node within) in
-      (k, node, within, at, record { rect = r; has_key = is; within = subst (λ (s : Shape). IsWithin s r) (sym region.outline.shape) (within_shape node.work.rect r round) })
+  found : (key : ℕ) (r : Rect) → rect_key r ≡ key → (nodes : List (Node Rect)) → All IsRectNode nodes → Any (λ node. Encloses node.work r) nodes → Any (λ node. LiesInShape key node.shape) nodes
+  found key r is nodes outlines (k, node, within, at, round) =
+      let outline : IsRectNode node = subst IsRectNode at (outlines k node within) in
+      (k, node, within, at, record { rect = r; has_key = is; within = subst (λ (s : Shape). IsWithin s r) (sym outline.shape) (within_shape node.work r round) })
 
   -- what the nodes of a split have to be, beside the nodes of the parts
-  abbrev pub Covers : Rect → Rect → List (Node Region) → Type 0
-  Covers r pivot nodes = (inner : Rect) → Encloses r inner → (Overlaps inner pivot → ⊥) → IsRoomy p.least inner → Any (λ node. Encloses node.work.rect inner) nodes
+  abbrev pub Covers : Rect → Rect → List (Node Rect) → Type 0
+  Covers r pivot nodes = (inner : Rect) → Encloses r inner → (Overlaps inner pivot → ⊥) → IsRoomy p.least inner → Any (λ node. Encloses node.work inner) nodes
 
-  covers_key : (node : Node Region) (pivot : Rect) (nodes : List (Node Region)) → IsNodeIn node p → Contains p.obstacles pivot → All (IsRegionNode p.obstacles) nodes → Covers node.work.rect pivot nodes → (key : ℕ) → Admits key → LiesInShape key node.shape → Any (λ part. LiesInShape key part.shape) nodes
-  covers_key node pivot nodes fit there regions covers key admitted lies =
+  covers_key : (node : Node Rect) (pivot : Rect) (nodes : List (Node Rect)) → IsNodeIn node p → Contains p.obstacles pivot → All IsRectNode nodes → Covers node.work pivot nodes → (key : ℕ) → Admits key → LiesInShape key node.shape → Any (λ part. LiesInShape key part.shape) nodes
+  covers_key node pivot nodes fit there outlines covers key admitted lies =
       let has : HasRectOfKey key p = of_numbers (HasRectOfKey key) p admitted in
       let one : lies.rect ≡ has.rect = same_key lies.rect has.rect (lies.has_key ∙ sym has.has_key) in
-      let inside : Encloses node.work.rect lies.rect = enclosed node.work.rect lies.rect (subst (λ (s : Shape). IsWithin s lies.rect) fit.region.outline.shape lies.within) in
-      found key has.rect has.has_key nodes regions
-      (covers has.rect (subst (λ (q : Rect). Encloses node.work.rect q) one inside)
+      let inside : Encloses node.work lies.rect = enclosed node.work lies.rect (subst (λ (s : Shape). IsWithin s lies.rect) fit.outline.shape lies.within) in
+      found key has.rect has.has_key nodes outlines
+      (covers has.rect (subst (λ (q : Rect). Encloses node.work q) one inside)
       (All-contains (λ box. Overlaps has.rect box → ⊥) p.obstacles pivot has.admissible.clear there) has.admissible.roomy)
 
-  pub splits_is : (node : Node Region) (pivot : Rect) (parts : List (Option Rect)) (nodes : List (Node Region)) → IsNodeIn node p → Contains p.obstacles pivot → Overlaps node.work.rect pivot → IsCut node.work.rect pivot parts → map rect_of nodes ≡ roomy_parts p.least parts → All (IsRegionNode p.obstacles) nodes → Covers node.work.rect pivot nodes → Splits Admits LiesInShape Fits node nodes
-  splits_is node pivot parts nodes fit there meets cut rects regions covers =
-      let r : Rect = node.work.rect in
+  pub splits_is : (node : Node Rect) (pivot : Rect) (parts : List (Option Rect)) (nodes : List (Node Rect)) → IsNodeIn node p → Contains p.obstacles pivot → Overlaps node.work pivot → IsCut node.work pivot parts → map rect_of nodes ≡ roomy_parts p.least parts → All IsRectNode nodes → Covers node.work pivot nodes → Splits Admits LiesInShape Fits node nodes
+  splits_is node pivot parts nodes fit there meets cut rects outlines covers =
+      let r : Rect = node.work in
       let four : IsFourSmaller r parts = cut_smaller r pivot meets parts cut in
-      let kept : All (λ part. IsKept r part.work.rect) nodes = kept_nodes r pivot parts nodes meets cut rects in
+      let kept : All (λ part. IsKept r part.work) nodes = kept_nodes r pivot parts nodes meets cut rects in
       record {
         few = omega (arith, few_kept p.least parts, four.four, ap length rects, length-map nodes rect_of);
-        fitting = λ k d within. fits_in r (get_or nodes k d) fit.inside (kept k d within) (regions k d within);
+        fitting = λ k d within. fits_in r (get_or nodes k d) fit.inside (kept k d within) (outlines k d within);
         smaller = λ k d within.
-            let part : Node Region = get_or nodes k d in
-            let less : area_of part.work.rect < area_of r = (kept k d within).part.smaller in
-            omega (arith, less, ap size (regions k d within).outline.shape, size_of_shape part.work.rect, ap size fit.region.outline.shape, size_of_shape r);
+            let part : Node Rect = get_or nodes k d in
+            let less : area_of part.work < area_of r = (kept k d within).part.smaller in
+            omega (arith, less, ap size (outlines k d within).shape, size_of_shape part.work, ap size fit.outline.shape, size_of_shape r);
         bounded = λ k d within.
-            let part : Node Region = get_or nodes k d in
-            omega (arith, (regions k d within).outline.bound, fit.region.outline.bound, no_greater_key r part.work.rect (kept k d within).part.inside);
-        covering = λ key admitted lies. covers_key node pivot nodes fit there regions covers key admitted lies;
+            let part : Node Rect = get_or nodes k d in
+            omega (arith, (outlines k d within).bound, fit.outline.bound, no_greater_key r part.work (kept k d within).part.inside);
+        covering = λ key admitted lies. covers_key node pivot nodes fit there outlines covers key admitted lies;
       }

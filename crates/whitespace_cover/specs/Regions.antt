@@ -1,5 +1,5 @@
 -- The boxes in which the greatest white rectangle is searched, and how they are cut.
-use Rattle.std.specs.Prelude.{◌≡◌, ℕ, ◌<◌, ℤ, pos, ◌≤ℤ◌, List, length, slice_index_or, Option, Some, None, All, Contains, cond, nat_le, ◌&&◌}
+use Rattle.std.specs.Prelude.{◌≡◌, ℕ, ℤ, pos, ◌≤ℤ◌, List, Option, Some, None, Contains, cond, nat_le, ◌&&◌}
 use Rattle.std.specs.List.{filter_map, AllZip}
 use Rattle.layout_geom.specs.declared.rect.Rect.{Rect}
 use Rattle.layout_geom.specs.Rectangles.{width_of, height_of, Overlaps, Encloses, IsCut, IsClear}
@@ -8,7 +8,6 @@ use Rattle.box_search.specs.declared.space.Shape.{Shape}
 use Rattle.box_search.specs.declared.space.Node.{Node}
 use Rattle.box_search.specs.declared.space.Step.{Step}
 use Rattle.box_search.specs.declared.space.Step.TheVariants.{Settled, Split}
-use Rattle.whitespace_cover.specs.declared.region.Region.{Region}
 use Rattle.whitespace_cover.specs.Admissible.{IsRoomy}
 use Rattle.whitespace_cover.specs.Problem.{Problem, OfProblem}
 
@@ -29,28 +28,22 @@ pub record LiesInShape (key : ℕ) (shape : Shape) : Type 0 where
   pub has_key : rect_key rect ≡ key
   pub within : IsWithin shape rect
 
--- the positions are of obstacles, and have each obstacle that overlaps the rectangle
-pub record HasNear (obstacles : List Rect) (r : Rect) (positions : List ℕ) : Type 0 where
-  pub present : All (λ i. i < length obstacles) positions
-  pub complete : (i : ℕ) (d : Rect) → i < length obstacles → Overlaps r (slice_index_or obstacles i d) → Contains positions i
-
 -- the node has the rectangle's shape, and its key as the bound
-pub record IsNodeOf (r : Rect) (node : Node Region) : Type 0 where
+pub record IsNodeOf (r : Rect) (node : Node Rect) : Type 0 where
   pub shape : node.shape ≡ shape_of r
   pub bound : node.bound ≡ rect_key r
 
--- the node is that of its region's rectangle, and knows the obstacles near it
-pub record IsRegionNode (obstacles : List Rect) (node : Node Region) : Type 0 where
-  pub outline : IsNodeOf node.work.rect node
-  pub near : HasNear obstacles node.work.rect node.work.near
+-- the node is that of the rectangle that it carries
+abbrev pub IsRectNode : Node Rect → Type 0
+IsRectNode node = IsNodeOf node.work node
 
 -- and this rectangle lies in the page and has at least the least size
-pub record IsNodeIn (node : Node Region) (problem : Problem) : Type 0 where
-  pub region : IsRegionNode problem.obstacles node
-  pub inside : Encloses problem.page node.work.rect
-  pub roomy : IsRoomy problem.least node.work.rect
+pub record IsNodeIn (node : Node Rect) (problem : Problem) : Type 0 where
+  pub outline : IsRectNode node
+  pub inside : Encloses problem.page node.work
+  pub roomy : IsRoomy problem.least node.work
 
-abbrev pub FitsWhite : List ℤ → Node Region → Type 0
+abbrev pub FitsWhite : List ℤ → Node Rect → Type 0
 FitsWhite numbers node = OfProblem (IsNodeIn node) numbers
 
 -- the part, where it is there and has at least the least size
@@ -62,7 +55,7 @@ abbrev pub roomy_parts : ℕ → List (Option Rect) → List Rect
 roomy_parts least parts = filter_map (roomy_part least) parts
 
 -- the nodes are those of the roomy parts round an obstacle that overlaps the rectangle
-pub record IsPivotSplit (problem : Problem) (r : Rect) (nodes : List (Node Region)) : Type 0 where
+pub record IsPivotSplit (problem : Problem) (r : Rect) (nodes : List (Node Rect)) : Type 0 where
   pub pivot : Rect
   pub parts : List (Option Rect)
   pub present : Contains problem.obstacles pivot
@@ -71,6 +64,6 @@ pub record IsPivotSplit (problem : Problem) (r : Rect) (nodes : List (Node Regio
   pub outlines : AllZip IsNodeOf (roomy_parts problem.least parts) nodes
 
 -- settled exactly where no obstacle overlaps the rectangle, and else split at a pivot
-abbrev pub IsWhiteStep : Problem → Rect → Step Region → Type 0
+abbrev pub IsWhiteStep : Problem → Rect → Step Rect → Type 0
 IsWhiteStep problem r (Settled key) = IsClear r problem.obstacles
 IsWhiteStep problem r (Split nodes) = IsPivotSplit problem r nodes.items

@@ -8,7 +8,6 @@ use Rattle.layout_geom.specs.KeyLaws.{positive_key, no_greater_key}
 use Rattle.layout_geom.specs.BoxNumbers.{same_box, all_boxes}
 use Rattle.box_search.specs.declared.space.Shape.{Shape}
 use Rattle.box_search.specs.declared.space.Node.{Node}
-use Rattle.whitespace_cover.specs.declared.region.Region.{Region}
 use Rattle.whitespace_cover.specs.Problem.{Problem, numbers_of, OfProblem, IsAdmitted}
 use Rattle.whitespace_cover.specs.Regions.{shape_of, IsWithin, LiesInShape, FitsWhite}
 
@@ -58,8 +57,8 @@ within_shape q r inside = record {
   bottom = omega (arith, ints, inside.bottom);
 }
 
-pub white_bounded : (numbers : List ℤ) (node : Node Region) (key : ℕ) → FitsWhite numbers node → IsAdmitted numbers key → LiesInShape key node.shape → key ≤ node.bound
+pub white_bounded : (numbers : List ℤ) (node : Node Rect) (key : ℕ) → FitsWhite numbers node → IsAdmitted numbers key → LiesInShape key node.shape → key ≤ node.bound
 white_bounded numbers node key fits admitted lies =
-    let rect : Rect = node.work.rect in
-    let within : Encloses rect lies.rect = enclosed rect lies.rect (subst (λ (s : Shape). IsWithin s lies.rect) fits.holds.region.outline.shape lies.within) in
-    omega (arith, fits.holds.region.outline.bound, lies.has_key, no_greater_key rect lies.rect within)
+    let rect : Rect = node.work in
+    let within : Encloses rect lies.rect = enclosed rect lies.rect (subst (λ (s : Shape). IsWithin s lies.rect) fits.holds.outline.shape lies.within) in
+    omega (arith, fits.holds.outline.bound, lies.has_key, no_greater_key rect lies.rect within)

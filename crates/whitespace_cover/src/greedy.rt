@@ -1,20 +1,12 @@
 //! The greedy cover of the white space of a page.
-ghost use Rattle.std.specs.Prelude.{◌≡◌, ◌≤◌, length, IfOk};
+ghost use Rattle.std.specs.Prelude.{◌≤◌, length, IfOk};
 ghost use Rattle.whitespace_cover.specs.Cover.{IsCover};
 
+use crate::bars::bars;
 use crate::white::White;
 use box_search::Searcher;
 use layout_geom::{OutOfMemory, Rect, Rects};
 use std::alloc::Global;
-
-/// The boxes, in a list of their own.
-fn copy_of(alloc: Global, boxes: &Rects) -> Result<Rects, OutOfMemory>
-    requires { length boxes.now ≤ 60000 }
-    ensures { IfOk result (λ copy. copy ≡ boxes.now) }
-{
-    let copy = Vec::from_slice(alloc, boxes.as_slice())?;
-    Ok(Rects::from_vec(copy))
-}
 
 /// The greedy cover of the white space of a page, after Breuel (2002): the greatest white rectangle
 /// clear of the boxes, then the greatest one clear of the boxes and of the first, and so on, until
@@ -39,16 +31,15 @@ pub fn cover<F: Searcher>(
     requires boxes { length boxes.now ≤ 60000 }
     ensures cover { IfOk result (IsCover page boxes.now least count) }
 {
-    let mut obstacles = copy_of(alloc, boxes)?;
+    let obstacles = bars(alloc, boxes, least)?;
+    let mut white = White::indexed(alloc, page, obstacles, least)?;
     let mut rects = Rects::new(alloc);
     for _ in 0..count {
-        let white = White::new(page, obstacles, least);
         let key = searcher.best(alloc, run, &white)?;
         let Some(rect) = Rect::of_key(key) else {
             return Ok(rects);
         };
-        obstacles = white.into_obstacles();
-        obstacles.push(rect)?;
+        white.push(rect)?;
         rects.push(rect)?;
     }
     Ok(rects)

@@ -2,7 +2,10 @@
 //! white space by such rectangles.
 #![tactic(auto)]
 
+mod bars;
+mod cells;
 mod greedy;
+mod pivot;
 mod region;
 #[cfg(test)]
 mod tests;
@@ -10,5 +13,4 @@ mod white;
 
 pub use greedy::cover;
 pub use layout_geom::OutOfMemory;
-pub use region::Region;
 pub use white::White;

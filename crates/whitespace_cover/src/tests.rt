@@ -6,7 +6,7 @@ mod plain;
 use crate::White;
 use box_search::{Alone, Noted, Searcher};
 use layout_geom::{OutOfMemory, Rect, Rects};
-use plain::{Sides, best_of_all, rank_of};
+use plain::{Sides, best_of_all, chance_box, next_number, rank_of};
 use std::alloc::Global;
 use std::process::Abort;
 use std::test::Fail;
@@ -100,6 +100,13 @@ fn compare(
     let best = best_of_all(page, obstacles, least);
     assert_eq!(rt; found.map(rank_of), best.map(rank_of), "{page:?} {least}");
     assert_eq!(rt; key == 0, best.is_none(), "{page:?} {least}");
+    let indexed = White::indexed(
+        alloc,
+        rect_of(rt, page),
+        rects_of(rt, alloc, obstacles)?,
+        least,
+    )?;
+    assert_eq!(rt; Alone.best(alloc, &(), &indexed)?, key, "{page:?} {least}");
     Ok(())
 }
 
@@ -111,13 +118,6 @@ fn small_pages_by_hand(rt: HostRuntime) -> Result<(), Fail> {
     Ok(())
 }
 
-/// The next number of a fixed sequence that looks like chance.
-fn next_number(number: u64) -> u64 {
-    number
-        .wrapping_mul(6_364_136_223_846_793_005)
-        .wrapping_add(1_442_695_040_888_963_407)
-}
-
 #[test]
 fn small_pages_by_chance(rt: HostRuntime) -> Result<(), Fail> {
     let mut number = 1;
@@ -125,9 +125,7 @@ fn small_pages_by_chance(rt: HostRuntime) -> Result<(), Fail> {
         let mut obstacles: Vec<Sides> = Vec::new(rt.alloc());
         for _ in 0..turn % 12 {
             number = next_number(number);
-            let (x0, y0) = ((number >> 60) % 8, (number >> 52) % 8);
-            let (x1, y1) = (x0 + (number >> 44) % 3 + 1, y0 + (number >> 36) % 3 + 1);
-            obstacles.push((x0 as u16, y0 as u16, x1 as u16, y1 as u16))?;
+            obstacles.push(chance_box(number, 8, 3))?;
         }
         compare(&rt, rt.alloc(), (0, 0, 8, 8), &obstacles, turn % 3 + 1)?;
     }

@@ -1,9 +1,15 @@
 //! The white rectangles of a page, as a space to be searched.
-use crate::region::{Region, all_positions, is_roomy, node_of, parts, pivot};
+use crate::cells::Cells;
+use crate::pivot::pivot_of;
+use crate::region::{is_roomy, node_of, parts};
 use box_search::{Node, Space, Step};
 use layout_geom::{OutOfMemory, Rect, Rects};
 use std::alloc::Global;
 use std::marker::Model;
+
+/// How many of the last obstacles are looked at before the index, as those that are pushed later are: large
+/// ones leave little to search.
+const LOOKED_AT_FIRST: usize = 16;
 
 /// The rectangles of a page that overlap no obstacle and have at least a least size, to be searched
 /// for the one of greatest key: Breuel's search for the greatest white rectangle (2002).
@@ -12,18 +18,23 @@ pub struct White {
     page: Rect,
     obstacles: Rects,
     least: u16,
+    /// An index of the first obstacles, if there is one.
+    cells: Option<Cells>,
 }
 
 impl Model for White {
     ghost use Rattle.whitespace_cover.specs.Problem.{Problem};
+    ghost use Rattle.whitespace_cover.specs.Index.{IsIndexed};
 
     ghost Value = { Problem };
 
     ghost view = { λ white. record { page = white.page; obstacles = white.obstacles; least = white.least } };
+
+    ghost invariant = { λ white. IsIndexed white.obstacles white.cells };
 }
 
 impl White {
-    ghost use Rattle.std.specs.Prelude.{◌≡◌};
+    ghost use Rattle.std.specs.Prelude.{◌≡◌, ◌++◌, ◌∷◌, [], is_ok, if◌then◌else◌, IfOk};
 
     /// The rectangles of the page that overlap no obstacle and are at least `least` columns wide and
     /// `least` rows high. It takes no memory.
@@ -36,14 +47,40 @@ impl White {
             page,
             obstacles,
             least,
+            cells: None,
         }
     }
 
-    /// The obstacles, given back. It takes no memory.
-    pub fn into_obstacles(self) -> Rects
-        ensures same { result ≡ self.obstacles }
+    /// The same with an index, by which a search finds the obstacles near a rectangle. A search is shorter
+    /// where the obstacles go from smaller to larger ones.
+    pub fn indexed(
+        alloc: Global,
+        page: Rect,
+        obstacles: Rects,
+        least: u16,
+    ) -> Result<White, OutOfMemory>
+        ensures page { IfOk result (λ white. white.page ≡ page) }
+        ensures obstacles { IfOk result (λ white. white.obstacles ≡ obstacles) }
+        ensures least { IfOk result (λ white. white.least ≡ least) }
     {
-        self.obstacles
+        let count = obstacles.len().saturating_sub(LOOKED_AT_FIRST);
+        let cells = Some(Cells::new(alloc, obstacles.as_slice(), count)?);
+        Ok(White {
+            page,
+            obstacles,
+            least,
+            cells,
+        })
+    }
+
+    /// Puts an obstacle behind the others. Where there is no memory for it, they stay as they were.
+    pub fn push(&mut self, obstacle: Rect) -> Result<(), OutOfMemory>
+        ensures page { self.new.page ≡ self.old.page }
+        ensures grown { self.new.obstacles ≡ (if is_ok result then self.old.obstacles ++ obstacle ∷ [] else self.old.obstacles) }
+        ensures least { self.new.least ≡ self.old.least }
+    {
+        self.obstacles.push(obstacle)?;
+        Ok(())
     }
 }
 
@@ -55,7 +92,7 @@ impl Space for White {
     ghost use Rattle.whitespace_cover.specs.Regions.{LiesInShape, IsNodeOf, FitsWhite, IsWhiteStep};
     ghost use Rattle.whitespace_cover.specs.WhiteLaws.{white_positive, white_bounded};
 
-    type Work = Region;
+    type Work = Rect;
 
     ghost problem = { numbers_of };
 
@@ -69,7 +106,7 @@ impl Space for White {
 
     ghost bounded = { white_bounded };
 
-    fn root(&self, alloc: Global) -> Result<Option<Node<Region>>, OutOfMemory>
+    fn root(&self, _alloc: Global) -> Result<Option<Node<Rect>>, OutOfMemory>
         ensures root { let p = numbers_of self.now in IfOk result (IsRootOf (IsAdmitted p) LiesInShape (FitsWhite p)) }
         // There is none exactly where the page is below the least size, and else it is the page.
         ensures none { IfOk result (λ root. IsNone root ↔ ((width_of self.now.page < self.now.least) ⊎ (height_of self.now.page < self.now.least))) }
@@ -78,20 +115,19 @@ impl Space for White {
         if !is_roomy(self.least, &self.page) {
             return Ok(None);
         }
-        let all = all_positions(alloc, self.obstacles.len())?;
-        Ok(Some(node_of(self.page, all)))
+        Ok(Some(node_of(self.page)))
     }
 
-    fn step(&self, alloc: Global, node: &Node<Region>) -> Result<Step<Region>, OutOfMemory>
+    fn step(&self, alloc: Global, node: &Node<Rect>) -> Result<Step<Rect>, OutOfMemory>
         requires fits { FitsWhite (numbers_of self.now) node.now }
         ensures step { let p = numbers_of self.now in IfOk result (IsStepOf (IsAdmitted p) LiesInShape (FitsWhite p) node.now) }
-        ensures exactly { IfOk result (IsWhiteStep self.now node.now.work.rect) }
+        ensures exactly { IfOk result (IsWhiteStep self.now node.now.work) }
     {
         let obstacles = self.obstacles.as_slice();
-        match pivot(self.least, obstacles, &node.work) {
+        match pivot_of(self.least, obstacles, &self.cells, &node.work) {
             None => Ok(Step::Settled(node.bound)),
             Some(pivot) => {
-                let nodes = parts(alloc, self.least, obstacles, &node.work, &pivot)?;
+                let nodes = parts(alloc, self.least, &node.work, &pivot)?;
                 Ok(Step::Split(nodes))
             }
         }

@@ -5,9 +5,9 @@ ghost use Rattle.whitespace_cover.specs.Problem.{numbers_of};
 ghost use Rattle.whitespace_cover.specs.Regions.{FitsWhite};
 
 use super::{RIGHT, white_of};
-use crate::{Region, White};
+use crate::White;
 use box_search::{Frontier, Lease, Node, Shape, Space, Step, Take};
-use layout_geom::OutOfMemory;
+use layout_geom::{OutOfMemory, Rect};
 use std::alloc::Global;
 use std::process::Abort;
 use std::test::Fail;
@@ -24,7 +24,7 @@ fn shape_of(x0: i32, y0: i32, x1: i32, y1: i32) -> Shape {
 }
 
 /// A frontier with a root open.
-fn begin(alloc: Global, white: &White, root: Node<Region>) -> Result<Frontier<Region>, OutOfMemory>
+fn begin(alloc: Global, white: &White, root: Node<Rect>) -> Result<Frontier<Rect>, OutOfMemory>
     requires { FitsWhite (numbers_of white.now) root }
     ensures fitting { IfOk result (λ frontier. All (FitsWhite (numbers_of white.now)) frontier.open_nodes) }
 {
@@ -34,7 +34,7 @@ fn begin(alloc: Global, white: &White, root: Node<Region>) -> Result<Frontier<Re
 }
 
 /// Leases an open node.
-fn lease(white: &White, frontier: &mut Frontier<Region>) -> Option<Lease<Region>>
+fn lease(white: &White, frontier: &mut Frontier<Rect>) -> Option<Lease<Rect>>
     requires fitting { All (FitsWhite (numbers_of white.now)) frontier.old.open_nodes }
     ensures fitting { IfSome result (λ _. All (FitsWhite (numbers_of white.now)) frontier.new.open_nodes) }
     ensures fits { IfSome result (λ lease. FitsWhite (numbers_of white.now) lease.node) }
@@ -49,7 +49,7 @@ fn lease(white: &White, frontier: &mut Frontier<Region>) -> Option<Lease<Region>
 }
 
 /// `Some` where nothing is open and something is out.
-fn look_idle(white: &White, frontier: &mut Frontier<Region>) -> Option<()>
+fn look_idle(white: &White, frontier: &mut Frontier<Rect>) -> Option<()>
     requires fitting { All (FitsWhite (numbers_of white.now)) frontier.old.open_nodes }
     ensures fitting { IfSome result (λ _. All (FitsWhite (numbers_of white.now)) frontier.new.open_nodes) }
     ensures same { IfSome result (λ _. frontier.new ≡ frontier.old) }
@@ -65,9 +65,9 @@ fn look_idle(white: &White, frontier: &mut Frontier<Region>) -> Option<()>
 /// Ends a lease.
 fn finish(
     white: &White,
-    frontier: &mut Frontier<Region>,
-    lease: Lease<Region>,
-    nodes: Vec<Node<Region>>,
+    frontier: &mut Frontier<Rect>,
+    lease: Lease<Rect>,
+    nodes: Vec<Node<Rect>>,
     seen: u64,
 ) -> Result<(), OutOfMemory>
     requires fitting { All (FitsWhite (numbers_of white.now)) frontier.old.open_nodes }
@@ -84,7 +84,7 @@ fn finish(
 }
 
 /// Opens the node of a lease again.
-fn reopen(white: &White, frontier: &mut Frontier<Region>, lease: Lease<Region>)
+fn reopen(white: &White, frontier: &mut Frontier<Rect>, lease: Lease<Rect>)
     requires fitting { All (FitsWhite (numbers_of white.now)) frontier.old.open_nodes }
     requires fits { FitsWhite (numbers_of white.now) lease.node }
     requires out { Contains frontier.old.leased (entry_of lease) }
@@ -99,8 +99,8 @@ fn split(
     rt: &impl Abort,
     alloc: Global,
     white: &White,
-    node: &Node<Region>,
-) -> Result<Vec<Node<Region>>, OutOfMemory>
+    node: &Node<Rect>,
+) -> Result<Vec<Node<Rect>>, OutOfMemory>
     requires { FitsWhite (numbers_of white.now) node.now }
     ensures { IfOk result (λ nodes. All (FitsWhite (numbers_of white.now)) nodes.items) }
 {
@@ -115,7 +115,7 @@ fn settle(
     rt: &impl Abort,
     alloc: Global,
     white: &White,
-    node: &Node<Region>,
+    node: &Node<Rect>,
 ) -> Result<u64, OutOfMemory>
     requires { FitsWhite (numbers_of white.now) node.now }
 {
@@ -130,7 +130,7 @@ fn cut_the_page(
     rt: &impl Abort,
     alloc: Global,
     white: &White,
-    frontier: &mut Frontier<Region>,
+    frontier: &mut Frontier<Rect>,
 ) -> Result<(), OutOfMemory>
     requires fitting { All (FitsWhite (numbers_of white.now)) frontier.old.open_nodes }
     ensures fitting { OnOk result (All (FitsWhite (numbers_of white.now)) frontier.new.open_nodes) }
@@ -155,7 +155,7 @@ fn look_at_the_right(
     rt: &impl Abort,
     alloc: Global,
     white: &White,
-    frontier: &mut Frontier<Region>,
+    frontier: &mut Frontier<Rect>,
 ) -> Result<(), OutOfMemory>
     requires fitting { All (FitsWhite (numbers_of white.now)) frontier.old.open_nodes }
     ensures fitting { OnOk result (All (FitsWhite (numbers_of white.now)) frontier.new.open_nodes) }
@@ -174,7 +174,7 @@ fn end_a_part(
     rt: &impl Abort,
     alloc: Global,
     white: &White,
-    frontier: &mut Frontier<Region>,
+    frontier: &mut Frontier<Rect>,
     shape: Shape,
 ) -> Result<(), OutOfMemory>
     requires fitting { All (FitsWhite (numbers_of white.now)) frontier.old.open_nodes }

@@ -1,8 +1,10 @@
 //! Greedy covers that were worked out by hand.
-use super::plain::Sides;
+use super::plain::{Sides, chance_box, next_number};
 use super::{rect_of, rects_of};
-use crate::cover;
-use box_search::Alone;
+use crate::{White, cover};
+use box_search::{Alone, Searcher};
+use layout_geom::{OutOfMemory, Rect, Rects};
+use std::alloc::Global;
 use std::test::Fail;
 
 /// A page with its boxes, and the rectangles of its cover in their order.
@@ -95,6 +97,52 @@ fn covers_by_hand(rt: HostRuntime) -> Result<(), Fail> {
         )?;
         let expected = rects_of(&rt, rt.alloc(), case.rects)?;
         assert_eq!(rt; found.as_slice(), expected.as_slice());
+    }
+    Ok(())
+}
+
+/// The cover by searches behind the boxes themselves, without an index.
+fn plain_cover(
+    alloc: Global,
+    page: Rect,
+    boxes: &Rects,
+    least: u16,
+    count: u32,
+) -> Result<Rects, OutOfMemory> {
+    let mut found = Rects::new(alloc);
+    for _ in 0..count {
+        let mut obstacles = Rects::new(alloc);
+        for rect in boxes.as_slice() {
+            obstacles.push(*rect)?;
+        }
+        for rect in found.as_slice() {
+            obstacles.push(*rect)?;
+        }
+        let key = Alone.best(alloc, &(), &White::new(page, obstacles, least))?;
+        let Some(rect) = Rect::of_key(key) else {
+            return Ok(found);
+        };
+        found.push(rect)?;
+    }
+    Ok(found)
+}
+
+// Boxes so close together that most of them become bars, over several cells of the index.
+#[test]
+fn bars_and_cells_change_no_cover(rt: HostRuntime) -> Result<(), Fail> {
+    let page = rect_of(&rt, (0, 0, 210, 200));
+    let mut number = 7;
+    for turn in 0..12_u16 {
+        let mut sides: Vec<Sides> = Vec::new(rt.alloc());
+        for _ in 0..40 + 10 * turn {
+            number = next_number(number);
+            sides.push(chance_box(number, 200, 12))?;
+        }
+        let boxes = rects_of(&rt, rt.alloc(), &sides)?;
+        assert!(rt; boxes.len() <= 60_000);
+        let found = cover(rt.alloc(), &(), page, &boxes, 4 + turn, 20, &mut Alone)?;
+        let expected = plain_cover(rt.alloc(), page, &boxes, 4 + turn, 20)?;
+        assert_eq!(rt; found.as_slice(), expected.as_slice(), "{turn}");
     }
     Ok(())
 }

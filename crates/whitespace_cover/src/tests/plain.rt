@@ -1,4 +1,5 @@
-//! The plain program: it lists every rectangle of a page of at most 8 by 8.
+//! The plain program: it lists every rectangle of a page of at most 8 by 8. And boxes by chance.
+ghost use Rattle.std.specs.Prelude.{◌<◌, ◌≤◌};
 
 /// The sides `x0`, `y0`, `x1`, `y1` of a rectangle.
 pub(crate) type Sides = (u16, u16, u16, u16);
@@ -42,4 +43,26 @@ pub(crate) fn best_of_all(page: Sides, obstacles: &[Sides], least: u16) -> Optio
         }
     }
     best
+}
+
+/// The next number of a fixed sequence that looks like chance.
+pub(crate) fn next_number(number: u64) -> u64 {
+    number
+        .wrapping_mul(6_364_136_223_846_793_005)
+        .wrapping_add(1_442_695_040_888_963_407)
+}
+
+/// A box by chance that begins before `page` and has at most `most` columns and rows.
+pub(crate) fn chance_box(number: u64, page: u64, most: u64) -> Sides
+    requires page { 0 < page }
+    requires most { 0 < most }
+    requires most_page { page ≤ 1000 }
+    requires small { most ≤ 1000 }
+{
+    let (x0, y0) = ((number >> 50) % page, (number >> 40) % page);
+    let (x1, y1) = (
+        x0 + (number >> 30) % most + 1,
+        y0 + (number >> 20) % most + 1,
+    );
+    (x0 as u16, y0 as u16, x1 as u16, y1 as u16)
 }

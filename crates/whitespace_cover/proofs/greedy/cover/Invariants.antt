@@ -4,7 +4,9 @@ use Rattle.whitespace_cover.proofs.greedy.cover.Given as goal
 
 abbrev pub invariant-loop : goal.invariant-loop
 invariant-loop g l = record {
-  obstacles : l.obstacles ≡ l.boxes ++ l.rects;
-  each : EachIsBest l.fn.page l.boxes l.least l.rects;
+  page : l.white.page ≡ l.fn.page;
+  obstacles : l.white.obstacles ≡ l.initial.white.obstacles ++ l.rects;
+  least : l.white.least ≡ l.fn.least;
+  each : EachIsBest l.fn.page l.boxes l.fn.least l.rects;
   many : length l.rects ≡ l.counter;
 }

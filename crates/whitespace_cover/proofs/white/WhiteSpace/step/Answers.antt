@@ -1,46 +1,37 @@
-use Rattle.std.proofs.Common.{◌∙◌, ℕ, List, All, Contains, ap, subst, sym}
+use Rattle.std.proofs.Common.{◌∙◌, ℕ, List, Contains, ap, subst, sym}
 use Rattle.std.specs.List.{AllZip}
 use Rattle.layout_geom.specs.declared.rect.Rect.{Rect}
 use Rattle.layout_geom.specs.Rectangles.{IsClear}
 use Rattle.whitespace_cover.specs.Admissible.{IsRoomy}
+use Rattle.whitespace_cover.specs.Index.{IsIndexed}
 use Rattle.whitespace_cover.specs.Problem.{Problem}
-use Rattle.whitespace_cover.specs.Regions.{IsNodeIn, IsNodeOf, HasNear, IsRegionNode, roomy_parts}
+use Rattle.whitespace_cover.specs.Regions.{IsNodeIn, IsNodeOf, roomy_parts}
 use Rattle.whitespace_cover.specs.WhiteLaws.{of_numbers}
 use Rattle.whitespace_cover.proofs.Steps.{settles_is, splits_is, outlines_of}
 use Rattle.whitespace_cover.proofs.white.WhiteSpace.step.Goals as goal
 
-pub pivot-requires : goal.pivot-requires
-pivot-requires c =
-    let fit : IsNodeIn c.args.node.now c.args.self.now = of_numbers (IsNodeIn c.args.node.now) c.args.self.now c.requires.fits in
-    let same = c.as_slice-obstacles.ensures.same ∙ ap (λ (p : Problem). p.obstacles) c.self.view_is in
-    subst (λ (xs : List Rect). HasNear xs c.args.node.now.work.rect c.args.node.now.work.near) (sym same) fit.region.near
-
-pub parts-requires-clause-near : goal.parts-requires-clause-near
-parts-requires-clause-near c =
-    let fit : IsNodeIn c.args.node.now c.args.self.now = of_numbers (IsNodeIn c.args.node.now) c.args.self.now c.requires.fits in
-    let same = c.as_slice-obstacles.ensures.same ∙ ap (λ (p : Problem). p.obstacles) c.self.view_is in
-    subst (λ (xs : List Rect). HasNear xs c.args.node.now.work.rect c.args.node.now.work.near) (sym same) fit.region.near
+pub pivot_of-requires : goal.pivot_of-requires
+pivot_of-requires c = subst (λ (xs : List Rect). IsIndexed xs c.self.inside.cells) (sym c.as_slice-obstacles.ensures.same) c.self.invariant
 
 pub returns-in-None-clause-step : goal.returns-in-None-clause-step
 returns-in-None-clause-step c =
     let fit : IsNodeIn c.args.node.now c.args.self.now = of_numbers (IsNodeIn c.args.node.now) c.args.self.now c.requires.fits in
     let same = c.as_slice-obstacles.ensures.same ∙ ap (λ (p : Problem). p.obstacles) c.self.view_is in
     settles_is c.args.self.now c.args.node.now fit
-    (subst (λ (xs : List Rect). IsClear c.args.node.now.work.rect xs) same c.in-None.ensures.none)
+    (subst (λ (xs : List Rect). IsClear c.args.node.now.work xs) same c.in-None.ensures.none)
 
 pub returns-in_ok-nodes-in-Some-clause-step : goal.returns-in_ok-nodes-in-Some-clause-step
 returns-in_ok-nodes-in-Some-clause-step c =
     let fit : IsNodeIn c.args.node.now c.args.self.now = of_numbers (IsNodeIn c.args.node.now) c.args.self.now c.requires.fits in
     let same = c.as_slice-obstacles.ensures.same ∙ ap (λ (p : Problem). p.obstacles) c.self.view_is in
     let size = ap (λ (p : Problem). p.least) c.self.view_is in
-    let nodes = c.in_ok-nodes-in-Some.nodes.items in
     let made = c.in_ok-nodes-in-Some.ensures in
-    splits_is c.args.self.now c.args.node.now c.in-Some.pivot made.rects.0 nodes fit
+    splits_is c.args.self.now c.args.node.now c.in-Some.pivot made.rects.0 c.in_ok-nodes-in-Some.nodes.items fit
     (subst (λ (xs : List Rect). Contains xs c.in-Some.pivot) same c.in-Some.ensures.some.0)
     c.in-Some.ensures.some.1
     made.rects.1
     (made.rects.2 ∙ ap (λ (n : ℕ). roomy_parts n made.rects.0) size)
-    (subst (λ (xs : List Rect). All (IsRegionNode xs) nodes) same made.nodes)
+    made.nodes
     (λ inner inside apart roomy. made.covering inner inside apart (subst (λ (n : ℕ). IsRoomy n inner) (sym size) roomy))
 
 pub returns-in_ok-nodes-in-Some-clause-exactly : goal.returns-in_ok-nodes-in-Some-clause-exactly
@@ -55,6 +46,5 @@ returns-in_ok-nodes-in-Some-clause-exactly c =
       present = subst (λ (xs : List Rect). Contains xs c.in-Some.pivot) same c.in-Some.ensures.some.0;
       overlaps = c.in-Some.ensures.some.1;
       cut = made.rects.1;
-      outlines = subst (λ (rs : List Rect). AllZip IsNodeOf rs nodes) (made.rects.2 ∙ ap (λ (n : ℕ). roomy_parts n made.rects.0) size)
-          (outlines_of c.as_slice-obstacles.result.now nodes made.nodes);
+      outlines = subst (λ (rs : List Rect). AllZip IsNodeOf rs nodes) (made.rects.2 ∙ ap (λ (n : ℕ). roomy_parts n made.rects.0) size) (outlines_of nodes made.nodes);
     }
