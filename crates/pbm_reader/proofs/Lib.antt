@@ -1,12 +1,5 @@
 pub mod Taken
 pub mod Copied
-pub mod HeaderSteps
-pub mod HeaderLaws
-pub mod PageLaws
-pub mod FaultLaws
-pub mod OneFault
-pub mod HeaderLoop
-pub mod Pixels
-pub mod RowLoop
-pub mod WholePage
-pub mod Judged
+pub mod Machines
+pub mod Gaps
+pub mod HeaderWalk

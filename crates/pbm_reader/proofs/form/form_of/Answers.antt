@@ -1,0 +1,1 @@
+use Rattle.pbm_reader.proofs.HeaderWalk.{is_read}
