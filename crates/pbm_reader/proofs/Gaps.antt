@@ -4,7 +4,7 @@ use Rattle.std.proofs.lemmas.Bool.Decides.{nat_tests}
 use Rattle.std.proofs.lemmas.List.{length-append}
 use Rattle.std.specs.List.{concat}
 use Rattle.pbm_reader.specs.Spelling.{is_white, is_line_end, is_digit, AreInLine, IsComment, IsWhite, AreBlank, IsBlank, IsGap, AreDigits, value_from}
-use Rattle.pbm_reader.specs.Header.{longer}
+use Rattle.pbm_reader.specs.Header.{longer, in_gap, in_comment}
 use Rattle.pbm_reader.proofs.Machines.{run}
 
 -- ---- what stands at the front
@@ -218,3 +218,42 @@ digit_not_white byte d = grind (arith, nat_tests)
 
 pub digit_no_hash : (byte : ℕ) → is_digit byte ≡ true → eqb byte 35 ≡ false
 digit_no_hash byte d = grind (arith, nat_tests)
+
+-- ---- a byte in a gap, and what a gap's byte was
+
+pub gap_white_step : {State : Type 0} (gap comment : State) (other : Option State) (byte : ℕ) → is_white byte ≡ true → in_gap gap comment other byte ≡ Some gap
+gap_white_step gap comment other byte w = rw w refl
+
+pub comment_end_step : {State : Type 0} (gap comment : State) (byte : ℕ) → is_line_end byte ≡ true → in_comment gap comment byte ≡ Some gap
+comment_end_step gap comment byte w = rw w refl
+
+pub comment_more_step : {State : Type 0} (gap comment : State) (byte : ℕ) → is_line_end byte ≡ false → in_comment gap comment byte ≡ Some comment
+comment_more_step gap comment byte w = rw w refl
+
+pub some_is : {A : Type 0} (a b : A) → (let o : Option A = Some a in o) ≡ Some b → a ≡ b
+some_is a b e = cc
+
+pub none_some : {A : Type 0} (a : A) → (let o : Option A = None in o) ≡ Some a → ⊥
+none_some a e = cc
+
+-- why a test that gave a state gave it
+pub tested : {State : Type 0} (b : Bool) (s n : State) (other : Option State) → cond b (Some s) other ≡ Some n → ((b ≡ true) × (n ≡ s)) ⊎ ((b ≡ false) × (other ≡ Some n))
+tested true s n other e = inl (refl, sym (some_is s n e))
+tested false s n other e = inr (refl, e)
+
+pub gap_tested : {State : Type 0} (gap comment n : State) (other : Option State) (byte : ℕ) → in_gap gap comment other byte ≡ Some n
+    → ((is_white byte ≡ true) × (n ≡ gap)) ⊎ ((byte ≡ 35) × (n ≡ comment)) ⊎ (other ≡ Some n)
+gap_tested gap comment n other byte e = cases (tested (is_white byte) gap n (cond (eqb byte 35) (Some comment) other) e)
+  where
+    is_hash : eqb byte 35 ≡ true → byte ≡ 35
+    is_hash h = grind (arith, nat_tests)
+
+    inner : ((eqb byte 35 ≡ true) × (n ≡ comment)) ⊎ ((eqb byte 35 ≡ false) × (other ≡ Some n))
+        → ((is_white byte ≡ true) × (n ≡ gap)) ⊎ ((byte ≡ 35) × (n ≡ comment)) ⊎ (other ≡ Some n)
+    inner (inl h) = inr (inl (is_hash h.0, h.1))
+    inner (inr h) = inr (inr h.1)
+
+    cases : ((is_white byte ≡ true) × (n ≡ gap)) ⊎ ((is_white byte ≡ false) × (cond (eqb byte 35) (Some comment) other ≡ Some n))
+        → ((is_white byte ≡ true) × (n ≡ gap)) ⊎ ((byte ≡ 35) × (n ≡ comment)) ⊎ (other ≡ Some n)
+    cases (inl w) = inl w
+    cases (inr w) = inner (tested (eqb byte 35) comment n other w.1)

@@ -6,10 +6,10 @@ use Rattle.pbm_reader.specs.declared.form.Form.TheVariants.{Plain, Raw}
 use Rattle.pbm_reader.specs.declared.state.HeaderState.{HeaderState}
 use Rattle.pbm_reader.specs.declared.state.HeaderState.TheVariants.{Magic, Kind, Named, WidthGap, WidthComment, Width, HeightGap, HeightComment, Height, Whole}
 use Rattle.pbm_reader.specs.Spelling.{is_white, is_line_end, is_digit, magic, IsWhite, IsGap, IsNumber, IsHeader, IsSomeHeader, AreDigits, value_from}
-use Rattle.pbm_reader.specs.Header.{form_of, longer, with_digit, in_gap, in_comment, next_state}
+use Rattle.pbm_reader.specs.Header.{form_of, longer, with_digit, in_gap, next_state}
 use Rattle.pbm_reader.specs.Fault.{IsFrontOf, StopsAt}
 use Rattle.pbm_reader.proofs.Machines.{run, Machine, Completes, IsRead}
-use Rattle.pbm_reader.proofs.Gaps.{AfterBlank, AfterComment, AfterGap, AfterDigits, AfterNumber, ReadsGaps, blank_here, gap_blank, gap_white, gap_comment, comment_more, comment_end, gap_of, told_from, told_value, digits_here, digits_more, number_first, run_gap, run_digits, run_number, digit_not_white, digit_no_hash}
+use Rattle.pbm_reader.proofs.Gaps.{AfterBlank, AfterComment, AfterGap, AfterDigits, AfterNumber, ReadsGaps, blank_here, gap_blank, gap_white, gap_comment, comment_more, comment_end, gap_of, told_from, told_value, digits_here, digits_more, number_first, run_gap, run_digits, run_number, digit_not_white, digit_no_hash, gap_white_step, comment_end_step, comment_more_step, some_is, none_some, tested, gap_tested}
 
 -- ---- the machine
 
@@ -45,15 +45,6 @@ abbrev pub header_machine : Machine HeaderState
 header_machine = record { step = next_state; start = Magic; is_whole = is_whole; ends = whole_ends; completes = completes }
 
 -- ---- a header is read whole
-
-gap_white_step : (gap comment : HeaderState) (other : Option HeaderState) (byte : ℕ) → is_white byte ≡ true → in_gap gap comment other byte ≡ Some gap
-gap_white_step gap comment other byte w = rw w refl
-
-comment_end_step : (gap comment : HeaderState) (byte : ℕ) → is_line_end byte ≡ true → in_comment gap comment byte ≡ Some gap
-comment_end_step gap comment byte w = rw w refl
-
-comment_more_step : (gap comment : HeaderState) (byte : ℕ) → is_line_end byte ≡ false → in_comment gap comment byte ≡ Some comment
-comment_more_step gap comment byte w = rw w refl
 
 digit_step : (gap comment : HeaderState) (at : ℕ → HeaderState) (n byte : ℕ) → is_digit byte ≡ true
     → in_gap gap comment (option_map at (with_digit n byte)) byte ≡ Some (at (longer n byte))
@@ -160,35 +151,7 @@ Rest t (HeightComment form width) bytes = AfterComment (HeightPart t form width)
 Rest t (Height form width height) bytes = AfterDigits height (λ h. Ending t form width h) bytes
 Rest t (Whole form width height) bytes = (bytes ≡ []) × (t ≡ Whole form width height)
 
-some_is : {A : Type 0} (a b : A) → (let o : Option A = Some a in o) ≡ Some b → a ≡ b
-some_is a b e = cc
-
-none_some : {A : Type 0} (a : A) → (let o : Option A = None in o) ≡ Some a → ⊥
-none_some a e = cc
-
--- why a test that gave a state gave it
-tested : (b : Bool) (s n : HeaderState) (other : Option HeaderState) → cond b (Some s) other ≡ Some n → ((b ≡ true) × (n ≡ s)) ⊎ ((b ≡ false) × (other ≡ Some n))
-tested true s n other e = inl (refl, sym (some_is s n e))
-tested false s n other e = inr (refl, e)
-
-gap_tested : (gap comment n : HeaderState) (other : Option HeaderState) (byte : ℕ) → in_gap gap comment other byte ≡ Some n
-    → ((is_white byte ≡ true) × (n ≡ gap)) ⊎ ((byte ≡ 35) × (n ≡ comment)) ⊎ (other ≡ Some n)
-gap_tested gap comment n other byte e = cases (tested (is_white byte) gap n (cond (eqb byte 35) (Some comment) other) e)
-  where
-    is_hash : eqb byte 35 ≡ true → byte ≡ 35
-    is_hash h = grind (arith, nat_tests)
-
-    inner : ((eqb byte 35 ≡ true) × (n ≡ comment)) ⊎ ((eqb byte 35 ≡ false) × (other ≡ Some n))
-        → ((is_white byte ≡ true) × (n ≡ gap)) ⊎ ((byte ≡ 35) × (n ≡ comment)) ⊎ (other ≡ Some n)
-    inner (inl h) = inr (inl (is_hash h.0, h.1))
-    inner (inr h) = inr (inr h.1)
-
-    cases : ((is_white byte ≡ true) × (n ≡ gap)) ⊎ ((is_white byte ≡ false) × (cond (eqb byte 35) (Some comment) other ≡ Some n))
-        → ((is_white byte ≡ true) × (n ≡ gap)) ⊎ ((byte ≡ 35) × (n ≡ comment)) ⊎ (other ≡ Some n)
-    cases (inl w) = inl w
-    cases (inr w) = inner (tested (eqb byte 35) comment n other w.1)
-
-digit_tested : (at : ℕ → HeaderState) (number byte : ℕ) (n : HeaderState) → option_map at (with_digit number byte) ≡ Some n → (is_digit byte ≡ true) × (n ≡ at (longer number byte))
+pub digit_tested : (at : ℕ → HeaderState) (number byte : ℕ) (n : HeaderState) → option_map at (with_digit number byte) ≡ Some n → (is_digit byte ≡ true) × (n ≡ at (longer number byte))
 digit_tested at number byte n e = cases (is_digit byte) refl e
   where
     cases : (b : Bool) → is_digit byte ≡ b → option_map at (cond b (Some (longer number byte)) None) ≡ Some n → (is_digit byte ≡ true) × (n ≡ at (longer number byte))

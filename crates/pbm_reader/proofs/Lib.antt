@@ -1,5 +1,10 @@
 pub mod Taken
 pub mod Copied
+pub mod Splits
 pub mod Machines
 pub mod Gaps
 pub mod HeaderWalk
+pub mod RasterWalk
+pub mod Verdict
+pub mod Faults
+pub mod Judged

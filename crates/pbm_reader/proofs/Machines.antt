@@ -90,7 +90,7 @@ stuck m t u [] some e w = absurd (omega (arith, some))
 stuck {State} m t u (byte ∷ rest) some e w =
     none_some u (sym (ap (λ (k : Option State). option_and_then (λ n. run m.step n rest) k) (m.ends t byte w)) ∙ e)
 
-open_state : {State : Type 0} (m : Machine State) (t u : State) (rest : List ℕ) → 0 < length rest → run m.step t rest ≡ Some u → m.is_whole t ≡ false
+pub open_state : {State : Type 0} (m : Machine State) (t u : State) (rest : List ℕ) → 0 < length rest → run m.step t rest ≡ Some u → m.is_whole t ≡ false
 open_state m t u rest some e = cases (m.is_whole t) refl
   where
     cases : (b : Bool) → m.is_whole t ≡ b → b ≡ false

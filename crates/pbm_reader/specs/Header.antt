@@ -20,11 +20,11 @@ abbrev pub with_digit : ℕ → ℕ → Option ℕ
 with_digit number byte = if is_digit byte then Some (longer number byte) else None
 
 -- what is behind a byte where a gap may stand: the gap, a comment in it, or something else
-abbrev pub in_gap : HeaderState → HeaderState → Option HeaderState → ℕ → Option HeaderState
+abbrev pub in_gap : {State : Type 0} → State → State → Option State → ℕ → Option State
 in_gap gap comment other byte = if is_white byte then Some gap else if byte == 35 then Some comment else other
 
 -- a comment ends with its line
-abbrev pub in_comment : HeaderState → HeaderState → ℕ → Option HeaderState
+abbrev pub in_comment : {State : Type 0} → State → State → ℕ → Option State
 in_comment gap comment byte = if is_line_end byte then Some gap else Some comment
 
 -- what one more byte makes of a header, or none where no header has this byte here

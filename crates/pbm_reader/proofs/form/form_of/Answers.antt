@@ -1,1 +1,0 @@
-use Rattle.pbm_reader.proofs.HeaderWalk.{is_read}

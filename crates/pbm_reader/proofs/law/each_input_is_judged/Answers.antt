@@ -1,0 +1,10 @@
+use Rattle.pbm_reader.proofs.Judged.{judged, one_page, one_fault, page_has_no_fault}
+use Rattle.pbm_reader.proofs.law.each_input_is_judged.Goals as goal
+
+pub returns : goal.returns
+returns c = record {
+  page_or_fault = λ input. judged input;
+  one_page = λ input p q s t. one_page input p q s t;
+  one_fault = λ input f g x y. one_fault input f g x y;
+  never_both = λ input page fault p f. page_has_no_fault input page fault p f;
+}
