@@ -86,7 +86,7 @@ past_run s t (byte ∷ bytes) p e = cases (λ n q r. past_run n t bytes q r) (ne
     cases again (Some n) q r = again n (past_step s n byte p q) r
 
 -- the form's name was read
-record IsNamed (front : List ℕ) (t : HeaderState) : Type 0 where
+pub record IsNamed (front : List ℕ) (t : HeaderState) : Type 0 where
   pub form : Form
   pub more : List ℕ
   pub text : front ≡ magic form ++ more
@@ -96,7 +96,7 @@ is_eq : (a b : ℕ) → eqb a b ≡ true → a ≡ b
 is_eq a b e = grind (arith, nat_tests)
 
 -- nothing was read, or a `P`, or a form's name and what may follow it
-read_so_far : (front : List ℕ) (t : HeaderState) → run next_state Magic front ≡ Some t → ((front ≡ []) × (t ≡ Magic)) ⊎ ((front ≡ 80 ∷ []) × (t ≡ Kind)) ⊎ IsNamed front t
+pub read_so_far : (front : List ℕ) (t : HeaderState) → run next_state Magic front ≡ Some t → ((front ≡ []) × (t ≡ Magic)) ⊎ ((front ≡ 80 ∷ []) × (t ≡ Kind)) ⊎ IsNamed front t
 read_so_far [] t e = inl (refl, sym (some_is Magic t e))
 read_so_far (first ∷ []) t e = inr (inl (one (eqb first 80) refl e))
   where
@@ -277,6 +277,10 @@ long_parts first second rest t reads len more done = record { front = first; beh
         front_read (second ++ c.bytes) c.last (omega (arith, length-append second c.bytes, c.some))
         (ap (λ (l : List ℕ). run next_state Magic l) (sym (append_assoc first second c.bytes)) ∙ run_append next_state Magic t (first ++ second) c.bytes reads ∙ c.reads) c.whole
 
+pub header_cut : (front : List ℕ) (t : HeaderState) → IsOpen header_machine front t → IsNamed front t → length front ≤ 65536 → IsTruncated front (length front)
+header_cut front t o n low =
+    record { end = refl; short = omega (arith, low); part = inl (record { some = named_len front t n; short = low; begins = header_front front t o }) }
+
 -- more than 65,536 bytes that begin a header, or are one
 pub too_long : (front rest : List ℕ) (t : HeaderState) → run next_state Magic front ≡ Some t → 65536 ≤ length front → 65536 < length (front ++ rest) → (is_whole t ≡ true → 65536 < length front)
     → IsHeaderTooLong (front ++ rest)
@@ -296,7 +300,7 @@ too_long front rest t reads le longer done =
 min_size : (n : ℕ) → min n 999999999 ≤ 8192 → min n 999999999 ≡ n
 min_size n le = omega (arith, le)
 
-told_size : (width height : ℕ) → IsPageSize (min width 999999999) (min height 999999999) → (min width 999999999 ≡ width) × (min height 999999999 ≡ height)
+pub told_size : (width height : ℕ) → IsPageSize (min width 999999999) (min height 999999999) → (min width 999999999 ≡ width) × (min height 999999999 ≡ height)
 told_size width height s = (min_size width s.width_bound, min_size height s.height_bound)
 
 -- the sizes of a header that no page has

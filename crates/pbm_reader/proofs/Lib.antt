@@ -8,3 +8,6 @@ pub mod RasterWalk
 pub mod Verdict
 pub mod Faults
 pub mod Judged
+pub mod HeaderLoop
+pub mod Pixels
+pub mod RowLoop
