@@ -11,3 +11,4 @@ pub mod Judged
 pub mod HeaderLoop
 pub mod Pixels
 pub mod RowLoop
+pub mod PixelLoop
