@@ -4,7 +4,9 @@ use Rattle.std.proofs.lemmas.Bool.Decides.{nat_tests}
 use Rattle.std.proofs.lemmas.Bool.{cases_lt, lt-ltb, le-ltb}
 use Rattle.std.proofs.lemmas.List.{length-append, get_or_append_left, get_or_past}
 use Rattle.std.proofs.lemmas.List.Folds.{concat-append}
+use Rattle.std.proofs.lemmas.Nat.Bits.{bit_at-zero}
 use Rattle.std.proofs.Math.Seq.{get_or-append-add}
+use Rattle.std.specs.Int.{bit_at}
 use Rattle.std.specs.List.{concat}
 use Rattle.pbm_reader.specs.declared.fault.PageFault.{PageFault}
 use Rattle.pbm_reader.specs.declared.fault.PageFault.TheVariants as faults
@@ -222,6 +224,17 @@ filling_begins old start row low white = record {
   count = refl;
   packed = λ k. white k ∙ sym (get_or_past [] k 0 (omega arith));
 }
+
+-- a row of zeros is white
+pub row_white : (size : ℕ) (row : List ℕ) → length row ≡ size → ((k d : ℕ) → k < size → get_or row k d ≡ 0) → (k : ℕ) → pixel row k ≡ 0
+row_white size row len zeros k = ap (λ (n : ℕ). bit_at n (7 - k % 8)) byte ∙ bit_at-zero (7 - k % 8)
+  where
+    byte : get_or row (k / 8) 0 ≡ 0
+    byte =
+        elim (cases_lt (k / 8) size) [
+          | inl lt ↦ zeros (k / 8) 0 lt
+          | inr ge ↦ get_or_past row (k / 8) 0 (omega (arith, len, ge))
+        ]
 
 one_more : (pixels : List ℕ) (bit k : ℕ) → get_or (pixels ++ bit ∷ []) k 0 ≡ cond (eqb k (length pixels)) bit (get_or pixels k 0)
 one_more pixels bit k =
