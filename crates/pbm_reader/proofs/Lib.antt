@@ -12,3 +12,4 @@ pub mod HeaderLoop
 pub mod Pixels
 pub mod RowLoop
 pub mod PixelLoop
+pub mod PlainRows
