@@ -13,3 +13,4 @@ pub mod Pixels
 pub mod RowLoop
 pub mod PixelLoop
 pub mod PlainRows
+pub mod TailLoop

@@ -91,9 +91,6 @@ raster_bound width height start s short =
     let open_up : height * (width + 7) ≡ width * height + height * 7 = omega arith in
     omega (arith, all, swap, open_up, area, high, short)
 
-pub raster_low : (width height start end : ℕ) → IsPageSize width height → start ≤ 65536 → end ≡ start + height * row_len width → end < 268435456
-raster_low width height start end s short is = omega (arith, raster_bound width height start s short, is)
-
 -- why a row was not read is why the raster was not read
 pub row_fails : {Sink : Type 0} (given : Sink → List ℕ → Sink → Type 0) (old middle new : Option (List ℕ)) (width height y start : ℕ) (before sink : Sink) (fault : PageFault)
     → IsGiving given old middle width height y before sink → y < height → IsPageSize width height → start ≤ 65536

@@ -1,8 +1,7 @@
 //! A whole page, from the first byte of the input to its end.
-ghost use Rattle.std.specs.Prelude.{◌≡◌, ◌<◌, ◌≤◌, ℕ, List, [], Some, IfOk, IfErr, OnErr, IsOkUnless};
+ghost use Rattle.std.specs.Prelude.{◌≡◌, ◌≤◌, ℕ, List, [], Some, IfOk, IfErr, OnErr, IsOkUnless};
 ghost use Rattle.layout_outside.specs.Causes.{Rose};
 ghost use Rattle.pbm_reader.specs.declared.fault.PageFault.{PageFault};
-ghost use Rattle.pbm_reader.specs.declared.form.Form.TheVariants.{Raw};
 ghost use Rattle.pbm_reader.specs.Page.{IsPageSize};
 ghost use Rattle.pbm_reader.specs.Raster.{GivenTopRows, RasterFails, TookRaster};
 ghost use Rattle.pbm_reader.specs.Spelling.{IsPage};
@@ -86,7 +85,6 @@ fn read_raster<S: Source, R: RowSink>(
     requires rows { R.rows_left rows.old ≡ header.size.height }
     ensures ok { IfOk result (λ end. TookRaster R.given (left_of (S.left src.old) feed.old)
         (left_of (S.left src.new) feed.new) header.form header.size.width header.size.height header.len end rows.old rows.new) }
-    ensures low { IfOk result (λ end. header.form ≡ Raw → end < 268435456) }
     ensures fault { IfErr result (RasterFails (left_of (S.left src.old) feed.old)
         (left_of (S.left src.new) feed.new) header.form header.size.width header.size.height header.len) }
     ensures top { OnErr result (GivenTopRows R.given R.unchanged header.form header.size.width header.size.height

@@ -103,7 +103,6 @@ pub(crate) fn read_raw_raster<S: Source, R: RowSink>(
     requires rows { R.rows_left rows.old ≡ header.size.height }
     ensures ok { IfOk result (λ end. TookRaster R.given (left_of (S.left src.old) feed.old)
         (left_of (S.left src.new) feed.new) Raw header.size.width header.size.height header.len end rows.old rows.new) }
-    ensures low { IfOk result (λ end. end < 268435456) }
     ensures fault { IfErr result (RasterFails (left_of (S.left src.old) feed.old)
         (left_of (S.left src.new) feed.new) Raw header.size.width header.size.height header.len) }
     ensures top { OnErr result (GivenTopRows R.given R.unchanged Raw header.size.width header.size.height

@@ -1,6 +1,6 @@
 //! What stands behind the raster of a page.
-ghost use Rattle.std.specs.Prelude.{◌≡◌, ◌≤◌, ◌<◌, ℕ, List, [], IfOk, IfErr, OnOk};
-ghost use Rattle.pbm_reader.specs.declared.form.Form.TheVariants.{Raw};
+ghost use Rattle.std.specs.Prelude.{◌≡◌, ◌≤◌, ◌↔◌, [], ◌∷◌, IsTrue, IfErr, OnOk};
+ghost use Rattle.pbm_reader.specs.Spelling.{MayFollow};
 ghost use Rattle.pbm_reader.specs.Reading.{HasReadCause};
 ghost use Rattle.pbm_reader.specs.Left.{left_of};
 ghost use Rattle.pbm_reader.specs.Tail.{RestFails, TailFails, TookRest, TookTail};
@@ -19,15 +19,27 @@ fn skip_rest<S: Source>(src: &mut S, feed: &mut Feed, start: u64) -> Result<(), 
     ensures drained { result ≡ Err PageFault.ReadFault → feed.new ≡ [] }
     ensures cause { HasReadCause (S.faults src.old) (S.faults src.new) result }
 {
-    let mut at = start;
-    while at <= MAX_INPUT {
-        let count = drop_bytes(src, feed)?;
+    let mut left = MAX_INPUT - start;
+    loop {
+        let count = drop_bytes(src, feed)? as u64;
         if count == 0 {
             return Ok(());
         }
-        at += count as u64;
+        if count > left {
+            return Err(PageFault::InputTooLong);
+        }
+        left -= count;
     }
-    Err(PageFault::InputTooLong)
+}
+
+/// Whether the byte may stand behind a raster of this form.
+fn may_follow(form: Form, byte: u8) -> bool
+    ensures { IsTrue result ↔ MayFollow form (byte ∷ []) }
+{
+    match form {
+        Form::Plain => is_white(byte),
+        Form::Raw => false,
+    }
 }
 
 /// Reads what stands behind a raster, which ends at this offset, to the end of the input.
@@ -38,7 +50,6 @@ pub(crate) fn read_tail<S: Source>(
     start: u64,
 ) -> Result<(), PageFault>
     requires low { start ≤ 268435456 }
-    requires raw { form ≡ Raw → start < 268435456 }
     ensures ok { OnOk result (TookTail (left_of (S.left src.old) feed.old) (left_of (S.left src.new) feed.new) form start) }
     ensures fault { IfErr result (TailFails (left_of (S.left src.old) feed.old) (left_of (S.left src.new) feed.new) form start) }
     ensures drained { result ≡ Err PageFault.ReadFault → feed.new ≡ [] }
@@ -50,7 +61,7 @@ pub(crate) fn read_tail<S: Source>(
     if start == MAX_INPUT {
         return Err(PageFault::InputTooLong);
     }
-    if form == Form::Raw || !is_white(byte) {
+    if !may_follow(form, byte) {
         return Err(PageFault::Trailing { at: start });
     }
     skip_rest(src, feed, start + 1)

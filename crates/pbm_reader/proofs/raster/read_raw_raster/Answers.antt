@@ -3,7 +3,7 @@ use Rattle.std.proofs.lemmas.Result.{err_from_is_err_and}
 use Rattle.pbm_reader.specs.Left.{left_of}
 use Rattle.pbm_reader.specs.Page.{row_len}
 use Rattle.pbm_reader.specs.Raster.{BytesFail}
-use Rattle.pbm_reader.proofs.RowLoop.{no_rows, one_more_row, row_fails, all_rows, rows_stop, raster_low}
+use Rattle.pbm_reader.proofs.RowLoop.{no_rows, one_more_row, row_fails, all_rows, rows_stop}
 use Rattle.pbm_reader.proofs.raster.read_raw_raster.Goals as goal
 
 pub returns-in_err-read_row-clause-fault : goal.returns-in_err-read_row-clause-fault
@@ -57,9 +57,3 @@ returns-clause-ok g c =
     let now = left_of (g.S.Source.left c.loop-y.src) c.loop-y.feed in
     all_rows g.R.RowSink.given old now size.width size.height c.loop-y._y c.args.header.len c.loop-y.at c.args.rows.now c.loop-y.rows c.loop-y.invariant.giving (omega arith)
     c.requires.size c.requires.short c.loop-y.invariant.offset
-
-pub returns-clause-low : goal.returns-clause-low
-returns-clause-low g c =
-    let size = c.args.header.size in
-    let all : c.loop-y._y ≡ size.height = omega arith in
-    raster_low size.width size.height c.args.header.len c.loop-y.at c.requires.size c.requires.short (subst (λ (n : ℕ). c.loop-y.at ≡ c.args.header.len + n * row_len size.width) all c.loop-y.invariant.offset)
