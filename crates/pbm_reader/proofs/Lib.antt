@@ -14,3 +14,4 @@ pub mod RowLoop
 pub mod PixelLoop
 pub mod PlainRows
 pub mod TailLoop
+pub mod WholePage

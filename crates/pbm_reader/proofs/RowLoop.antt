@@ -149,13 +149,14 @@ pub rows_stop : {Sink : Type 0} (given : Sink → List ℕ → Sink → Type 0) 
     → IsGiving given old now width height y start sink → Stays unchanged sink last → GivenTopRows given unchanged Raw width height old start last
 rows_stop given unchanged old now width height y start sink last g stays =
     let a = all_left old now g.part g.took in
+    let Q : List ℕ → Type 0 = λ l. AfterRows given (raster_page width height l) y start sink in
     record {
       behind = g.part ++ a.0;
       all = a.1;
       count = y;
-      page = raster_page width height (g.part ++ a.0);
-      whole = (omega (arith, length-append g.part a.0, g.len), refl);
+      page = raster_page width height g.part;
+      whole = (g.part, a.0, refl, omega (arith, g.len), refl);
       top = sink;
-      rows = g.rows a.0;
+      rows = subst Q (append-nil g.part) (g.rows []);
       stays = stays;
     }

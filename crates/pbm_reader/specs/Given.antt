@@ -20,12 +20,13 @@ pub record AfterPage {Sink : Type 0} (begun : Sink → ℕ → ℕ → Sink → 
 abbrev pub Stays : {Sink : Type 0} → (Sink → Sink → Type 0) → Sink → Sink → Type 0
 Stays unchanged old new = (new ≡ old) ⊎ unchanged old new
 
--- the bytes behind a header have the first rows of this page whole
+-- the bytes behind a header begin with what has the first rows of this page whole
 abbrev pub HasTopRows : Form → ℕ → ℕ → List ℕ → ℕ → Page → Type 0
 HasTopRows Plain width height behind count page =
-    (pixels : List ℕ) × (raster : List ℕ) × (rest : List ℕ) × (behind ≡ raster ++ rest) × SpellsPixels pixels raster
+    (pixels : List ℕ) × (part : List ℕ) × (rest : List ℕ) × (behind ≡ part ++ rest) × SpellsPixels pixels part
     × (count * width ≤ length pixels) × (page ≡ pixels_page width height pixels)
-HasTopRows Raw width height behind count page = (count * row_len width ≤ length behind) × (page ≡ raster_page width height behind)
+HasTopRows Raw width height behind count page =
+    (part : List ℕ) × (rest : List ℕ) × (behind ≡ part ++ rest) × (count * row_len width ≤ length part) × (page ≡ raster_page width height part)
 
 -- the sink that began with the size in the input's header, and was given the first rows, each whole in the bytes behind the header
 pub record AfterTopRows {Sink : Type 0} (begun : Sink → ℕ → ℕ → Sink → Type 0) (given : Sink → List ℕ → Sink → Type 0) (unchanged : Sink → Sink → Type 0)
