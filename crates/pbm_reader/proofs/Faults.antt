@@ -1,17 +1,17 @@
 -- Where the reading of an input stops, the input has the fault that is answered there.
-use Rattle.std.proofs.Common.{◌≡◌, ℕ, ◌+◌, ◌-◌, ◌*◌, ◌<◌, ◌≤◌, ◌⊎◌, min, Bool, true, false, cond, eqb, List, [], ◌∷◌, ◌++◌, length, take, drop, replicate, Option, Some, None, option_and_then, option_map, refl, sym, ap, subst, ◌∙◌, append_assoc, inl, inr, arith}
+use Rattle.std.proofs.Common.{◌≡◌, ℕ, ◌+◌, ◌-◌, ◌<◌, ◌≤◌, ◌⊎◌, min, Bool, true, false, cond, eqb, List, [], ◌∷◌, ◌++◌, length, take, drop, Option, Some, None, option_and_then, option_map, refl, sym, ap, subst, ◌∙◌, append_assoc, inl, inr, arith}
 use Rattle.std.proofs.lemmas.Bool.Decides.{nat_tests}
-use Rattle.std.proofs.lemmas.List.{append-nil, length-append, length-take-le, length-drop, take-append-drop, length-replicate}
+use Rattle.std.proofs.lemmas.List.{append-nil, length-append, length-take-le, length-drop, take-append-drop}
 use Rattle.pbm_reader.specs.declared.fault.PageFault.{PageFault}
 use Rattle.pbm_reader.specs.declared.fault.PageFault.TheVariants as faults
 use Rattle.pbm_reader.specs.declared.form.Form.{Form}
 use Rattle.pbm_reader.specs.declared.form.Form.TheVariants.{Plain, Raw}
 use Rattle.pbm_reader.specs.declared.state.HeaderState.{HeaderState}
 use Rattle.pbm_reader.specs.declared.state.HeaderState.TheVariants.{Magic, Kind, Named, WidthGap, WidthComment, Width, HeightGap, HeightComment, Height, Whole}
-use Rattle.pbm_reader.specs.Page.{IsPageSize, row_len}
-use Rattle.pbm_reader.specs.Spelling.{magic, is_white, is_line_end, IsHeader, IsSomeHeader, HasHeader, IsRaster}
-use Rattle.pbm_reader.specs.Header.{form_of, with_digit, in_gap, in_comment, next_state, wrong_byte, missing_byte}
-use Rattle.pbm_reader.specs.Fault.{Begins, HasMagic, IsFrontOf, StopsAt, IsMagicFault, IsHeaderFault, IsHeaderTooLong, HasPageHeader, EndsInHeader, EndsInRaster, IsSizeFault, IsTruncated, IsPixelFault, HasFaultWithin}
+use Rattle.pbm_reader.specs.Page.{IsPageSize}
+use Rattle.pbm_reader.specs.Spelling.{magic, is_white, is_line_end, IsHeader, IsSomeHeader, IsRaster}
+use Rattle.pbm_reader.specs.Header.{with_digit, in_gap, in_comment, next_state, wrong_byte, missing_byte}
+use Rattle.pbm_reader.specs.Fault.{Begins, HasMagic, IsFrontOf, IsMagicFault, IsHeaderFault, IsHeaderTooLong, HasPageHeader, IsSizeFault, IsTruncated, HasFaultWithin}
 use Rattle.pbm_reader.proofs.Machines.{run, run_append, IsRead, IsOpen, IsStuck, front_of, stops_of, front_map, stops_map}
 use Rattle.pbm_reader.proofs.Gaps.{some_is, none_some, tested, gap_tested}
 use Rattle.pbm_reader.proofs.HeaderWalk.{is_whole, completes, header_machine, is_read, is_header, digit_tested}

@@ -1,9 +1,9 @@
 -- White bytes, comments and digits, one byte at a time: what stands at the front of some bytes, and how a machine reads it.
-use Rattle.std.proofs.Common.{◌≡◌, ℕ, ◌+◌, ◌-◌, ◌*◌, ◌<◌, ◌≤◌, ◌⊎◌, min, Bool, true, false, cond, eqb, leb, ◌&&◌, ◌||◌, List, [], ◌∷◌, ◌++◌, length, Option, Some, None, option_and_then, IsTrue, IsFalse, refl, sym, ap, subst, ◌∙◌, append_assoc, inl, inr, arith}
+use Rattle.std.proofs.Common.{◌≡◌, ℕ, ◌+◌, ◌-◌, ◌*◌, ◌<◌, ◌⊎◌, min, Bool, true, false, cond, eqb, List, [], ◌∷◌, ◌++◌, length, Option, Some, None, option_and_then, refl, sym, ap, ◌∙◌, append_assoc, inl, inr, arith}
 use Rattle.std.proofs.lemmas.Bool.Decides.{nat_tests}
 use Rattle.std.proofs.lemmas.List.{length-append}
 use Rattle.std.specs.List.{concat}
-use Rattle.pbm_reader.specs.Spelling.{is_white, is_line_end, is_digit, AreInLine, IsComment, IsWhite, AreBlank, IsBlank, IsGap, AreDigits, value_from}
+use Rattle.pbm_reader.specs.Spelling.{is_white, is_line_end, is_digit, AreInLine, IsComment, IsWhite, AreBlank, IsGap, AreDigits, value_from}
 use Rattle.pbm_reader.specs.Header.{longer, in_gap, in_comment}
 use Rattle.pbm_reader.proofs.Machines.{run}
 

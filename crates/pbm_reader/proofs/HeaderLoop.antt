@@ -3,7 +3,6 @@ use Rattle.std.proofs.Common.{◌≡◌, ℕ, ◌+◌, ◌<◌, ◌≤◌, min, 
 use Rattle.std.specs.Prelude.{IfSome}
 use Rattle.std.proofs.lemmas.List.{length-append}
 use Rattle.pbm_reader.specs.declared.form.Form.{Form}
-use Rattle.pbm_reader.specs.declared.header.Header.{Header}
 use Rattle.pbm_reader.specs.declared.header.Told.{Told}
 use Rattle.pbm_reader.specs.declared.fault.Size.{Size}
 use Rattle.pbm_reader.specs.declared.fault.PageFault.{PageFault}

@@ -1,15 +1,14 @@
 -- The header's machine reads just the headers.
-use Rattle.std.proofs.Common.{lit<, ◌≡◌, ℕ, ◌+◌, ◌-◌, ◌*◌, ◌<◌, ◌≤◌, ◌⊎◌, min, Bool, true, false, cond, eqb, ◌&&◌, ◌||◌, List, [], ◌∷◌, ◌++◌, length, Option, Some, None, option_and_then, option_map, IsTrue, IsFalse, refl, sym, ap, subst, ◌∙◌, append_assoc, inl, inr, arith}
+use Rattle.std.proofs.Common.{lit<, ◌≡◌, ℕ, ◌⊎◌, min, Bool, true, false, cond, eqb, List, [], ◌∷◌, ◌++◌, Option, Some, None, option_and_then, option_map, refl, sym, ap, subst, ◌∙◌, append_assoc, inl, inr, arith}
 use Rattle.std.proofs.lemmas.Bool.Decides.{nat_tests}
 use Rattle.pbm_reader.specs.declared.form.Form.{Form}
 use Rattle.pbm_reader.specs.declared.form.Form.TheVariants.{Plain, Raw}
 use Rattle.pbm_reader.specs.declared.state.HeaderState.{HeaderState}
 use Rattle.pbm_reader.specs.declared.state.HeaderState.TheVariants.{Magic, Kind, Named, WidthGap, WidthComment, Width, HeightGap, HeightComment, Height, Whole}
-use Rattle.pbm_reader.specs.Spelling.{is_white, is_line_end, is_digit, magic, IsWhite, IsGap, IsNumber, IsHeader, IsSomeHeader, AreDigits, value_from}
-use Rattle.pbm_reader.specs.Header.{form_of, longer, with_digit, in_gap, next_state}
-use Rattle.pbm_reader.specs.Fault.{IsFrontOf, StopsAt}
+use Rattle.pbm_reader.specs.Spelling.{is_white, is_line_end, is_digit, magic, IsWhite, IsNumber, IsHeader, IsSomeHeader, value_from}
+use Rattle.pbm_reader.specs.Header.{longer, with_digit, in_gap, next_state}
 use Rattle.pbm_reader.proofs.Machines.{run, Machine, Completes, IsRead}
-use Rattle.pbm_reader.proofs.Gaps.{AfterBlank, AfterComment, AfterGap, AfterDigits, AfterNumber, ReadsGaps, blank_here, gap_blank, gap_white, gap_comment, comment_more, comment_end, gap_of, told_from, told_value, digits_here, digits_more, number_first, run_gap, run_digits, run_number, digit_not_white, digit_no_hash, gap_white_step, comment_end_step, comment_more_step, some_is, none_some, tested, gap_tested}
+use Rattle.pbm_reader.proofs.Gaps.{AfterBlank, AfterComment, AfterGap, AfterDigits, AfterNumber, ReadsGaps, blank_here, gap_blank, gap_white, gap_comment, comment_more, comment_end, gap_of, told_from, told_value, digits_here, digits_more, number_first, run_gap, run_number, digit_not_white, digit_no_hash, gap_white_step, comment_end_step, comment_more_step, some_is, none_some, tested, gap_tested}
 
 -- ---- the machine
 

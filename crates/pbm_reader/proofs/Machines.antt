@@ -1,5 +1,5 @@
 -- A machine that reads bytes one by one: the texts that it reads whole, and where it stops in others.
-use Rattle.std.proofs.Common.{◌≡◌, ℕ, ◌+◌, ◌<◌, ◌≤◌, Bool, true, false, List, [], ◌∷◌, ◌++◌, length, Option, Some, None, option_and_then, refl, sym, ap, subst, ◌∙◌, arith}
+use Rattle.std.proofs.Common.{◌≡◌, ℕ, ◌<◌, Bool, true, false, List, [], ◌∷◌, ◌++◌, length, Option, Some, None, option_and_then, refl, sym, ap, subst, ◌∙◌, arith}
 use Rattle.pbm_reader.specs.Fault.{IsFrontOf, StopsAt}
 
 -- the state behind these bytes, or none where the machine stops in them

@@ -1,7 +1,7 @@
 -- Pixels of a plain raster are read one after the other.
-use Rattle.std.proofs.Common.{lit<, ◌≡◌, ◌≢◌, ℕ, zero, suc, ◌+◌, ◌-◌, ◌*◌, ◌/◌, ◌%◌, ◌<◌, ◌≤◌, ◌⊎◌, Bool, true, false, not, cond, eqb, ◌&&◌, List, [], ◌∷◌, ◌++◌, length, get_or, Option, refl, sym, ap, subst, ◌∙◌, append_assoc, append-nil, inl, inr, arith}
+use Rattle.std.proofs.Common.{lit<, ◌≡◌, ℕ, ◌+◌, ◌-◌, ◌/◌, ◌%◌, ◌<◌, ◌≤◌, ◌⊎◌, Bool, true, false, not, cond, eqb, List, [], ◌∷◌, ◌++◌, length, get_or, Option, refl, sym, ap, subst, ◌∙◌, append_assoc, append-nil, inl, inr, arith}
 use Rattle.std.proofs.lemmas.Bool.Decides.{nat_tests}
-use Rattle.std.proofs.lemmas.Bool.{cases_lt, lt-ltb, le-ltb}
+use Rattle.std.proofs.lemmas.Bool.{cases_lt}
 use Rattle.std.proofs.lemmas.List.{length-append, get_or_append_left, get_or_past}
 use Rattle.std.proofs.lemmas.List.Folds.{concat-append}
 use Rattle.std.proofs.lemmas.Nat.Bits.{bit_at-zero}
@@ -10,11 +10,10 @@ use Rattle.std.specs.Int.{bit_at}
 use Rattle.std.specs.List.{concat}
 use Rattle.pbm_reader.specs.declared.fault.PageFault.{PageFault}
 use Rattle.pbm_reader.specs.declared.fault.PageFault.TheVariants as faults
-use Rattle.pbm_reader.specs.declared.plain.PixelStep.{PixelStep}
 use Rattle.pbm_reader.specs.declared.plain.PixelStep.TheVariants.{Blank, Found, Wrong}
 use Rattle.pbm_reader.specs.Page.{row_len, pixel, IsPackedRow}
 use Rattle.pbm_reader.specs.Spelling.{is_white, is_line_end, AreInLine, IsWhite, IsComment, AreBlank, IsBlank, SpellsPixels}
-use Rattle.pbm_reader.specs.Plain.{pixel_step, IsBlankPart, bit_of, TookPixels, PixelsBegun, PixelsFail, ArePacked, TookRow}
+use Rattle.pbm_reader.specs.Plain.{pixel_step, IsBlankPart, bit_of, TookPixels, PixelsBegun, PixelsFail, TookRow}
 use Rattle.pbm_reader.specs.Left.{Took, TookAll}
 use Rattle.pbm_reader.proofs.Taken.{took_more, took_all, prepend_nothing}
 

@@ -1,5 +1,5 @@
 -- The rows of a plain raster are given one after the other.
-use Rattle.std.proofs.Common.{◌≡◌, ℕ, zero, suc, ◌+◌, ◌-◌, ◌*◌, ◌/◌, ◌%◌, ◌<◌, ◌≤◌, Bool, true, false, cond, eqb, ltb, ◌&&◌, List, [], ◌∷◌, ◌++◌, length, get_or, Option, option_and_then, refl, sym, ap, subst, ◌∙◌, append_assoc, append-nil, inl, inr, arith}
+use Rattle.std.proofs.Common.{◌≡◌, ℕ, zero, suc, ◌+◌, ◌-◌, ◌*◌, ◌<◌, ◌≤◌, Bool, false, cond, eqb, ◌&&◌, List, [], ◌∷◌, ◌++◌, length, get_or, Option, option_and_then, refl, sym, ap, subst, ◌∙◌, append_assoc, append-nil, inl, inr, arith}
 use Rattle.std.proofs.Math.Nat.{mul-le-mul_right}
 use Rattle.std.proofs.Math.Seq.{get_or-append-add}
 use Rattle.std.proofs.lemmas.Bool.{cases_lt, lt-ltb, le-ltb}
@@ -8,13 +8,12 @@ use Rattle.pbm_reader.specs.declared.fault.PageFault.{PageFault}
 use Rattle.pbm_reader.specs.declared.fault.PageFault.TheVariants as faults
 use Rattle.pbm_reader.specs.declared.form.Form.TheVariants.{Plain}
 use Rattle.pbm_reader.specs.declared.plain.PixelStep.TheVariants.{Wrong}
-use Rattle.pbm_reader.specs.Page.{row_len, pixel, IsRowOf}
+use Rattle.pbm_reader.specs.Page.{IsRowOf}
 use Rattle.pbm_reader.specs.Spelling.{IsRaster, SpellsPixels, pixels_page}
 use Rattle.pbm_reader.specs.Fault.{IsFrontOf}
 use Rattle.pbm_reader.specs.Given.{AfterRows, Stays}
-use Rattle.pbm_reader.specs.Plain.{pixel_step, TookPixels, PixelsBegun, PixelsFail, ArePacked, TookRow, TakesPixels}
+use Rattle.pbm_reader.specs.Plain.{pixel_step, TookPixels, PixelsBegun, PixelsFail, ArePacked, TakesPixels}
 use Rattle.pbm_reader.specs.Raster.{RasterFails, TookRaster, GivenTopRows}
-use Rattle.pbm_reader.specs.Left.{Took, TookAll}
 use Rattle.pbm_reader.proofs.Machines.{run, run_append, IsRead}
 use Rattle.pbm_reader.proofs.RasterWalk.{RasterState, raster_step, wanted, raster_machine, begun_open, wrong_stops, part_state, raster_is_read}
 use Rattle.pbm_reader.proofs.Gaps.{none_some}

@@ -1,12 +1,11 @@
 -- A machine that reads just the plain rasters of a number of pixels.
-use Rattle.std.proofs.Common.{lit<, ◌≡◌, ℕ, zero, suc, ◌+◌, ◌-◌, ◌*◌, ◌<◌, ◌≤◌, ◌⊎◌, Bool, true, false, not, cond, eqb, List, [], ◌∷◌, ◌++◌, length, Option, Some, None, option_and_then, refl, sym, ap, subst, ◌∙◌, append_assoc, inl, inr, arith}
+use Rattle.std.proofs.Common.{lit<, ◌≡◌, ℕ, zero, suc, ◌+◌, ◌-◌, ◌*◌, ◌<◌, ◌⊎◌, Bool, true, false, cond, eqb, List, [], ◌∷◌, ◌++◌, length, Option, Some, None, option_and_then, refl, sym, ap, subst, ◌∙◌, append_assoc, inl, inr, arith}
 use Rattle.std.proofs.lemmas.Bool.Decides.{nat_tests}
-use Rattle.std.proofs.lemmas.List.{append-nil, length-append}
+use Rattle.std.proofs.lemmas.List.{append-nil}
 use Rattle.std.specs.List.{concat}
 use Rattle.pbm_reader.specs.declared.form.Form.TheVariants.{Plain}
-use Rattle.pbm_reader.specs.declared.plain.PixelStep.{PixelStep}
 use Rattle.pbm_reader.specs.declared.plain.PixelStep.TheVariants.{Blank, Found, Wrong}
-use Rattle.pbm_reader.specs.Spelling.{is_white, is_line_end, AreInLine, AreBlank, IsBlank, SpellsPixels, IsRaster}
+use Rattle.pbm_reader.specs.Spelling.{is_white, is_line_end, AreInLine, IsBlank, SpellsPixels, IsRaster}
 use Rattle.pbm_reader.specs.Header.{in_gap, in_comment}
 use Rattle.pbm_reader.specs.Plain.{pixel_step, IsBlankPart, PixelsBegun}
 use Rattle.pbm_reader.proofs.Machines.{run, run_append, Machine, Completes, IsRead, IsOpen}

@@ -10,9 +10,9 @@ use Rattle.pbm_reader.specs.declared.fault.PageFault.TheVariants as faults
 use Rattle.pbm_reader.specs.declared.form.Form.{Form}
 use Rattle.pbm_reader.specs.declared.form.Form.TheVariants.{Plain, Raw}
 use Rattle.pbm_reader.specs.Page.{Page, IsPageSize, row_len}
-use Rattle.pbm_reader.specs.Spelling.{IsHeader, HasHeader, IsRaster, MayFollow, SpellsRows, IsPage, pixels_page, raster_page, Spells}
+use Rattle.pbm_reader.specs.Spelling.{IsHeader, IsRaster, MayFollow, SpellsRows, IsPage, pixels_page, raster_page, Spells}
 use Rattle.pbm_reader.specs.Fault.{IsFrontOf, HasPageHeader, HasFault, IsTruncated, IsPixelFault, IsTrailing, IsInputTooLong}
-use Rattle.pbm_reader.specs.Given.{AfterRows, AfterPage, AfterFault, HasTopRows}
+use Rattle.pbm_reader.specs.Given.{AfterRows, AfterFault, HasTopRows}
 use Rattle.pbm_reader.specs.Raster.{RasterFails, TookRaster, GivenTopRows}
 use Rattle.pbm_reader.specs.Tail.{TailFails, TookTail}
 use Rattle.pbm_reader.specs.Left.{left_of, Took, TookAll, TookHeader}

@@ -1,5 +1,5 @@
 -- Reading the rows of a page.
-use Rattle.std.specs.Prelude.{◌≡◌, ◌<◌, ◌≤◌, ℕ, ◌+◌, ◌*◌, List, [], ◌∷◌, ◌++◌, length, Option, IfSome, ⊤, nat_lt, if◌then◌else◌}
+use Rattle.std.specs.Prelude.{◌≡◌, ◌<◌, ◌≤◌, ℕ, ◌+◌, List, [], ◌∷◌, ◌++◌, length, Option, IfSome, ⊤, nat_lt, if◌then◌else◌}
 use Rattle.pbm_reader.specs.declared.fault.PageFault.{PageFault}
 use Rattle.pbm_reader.specs.declared.fault.PageFault.TheVariants as faults
 use Rattle.pbm_reader.specs.declared.form.Form.{Form}

@@ -1,4 +1,3 @@
-use Rattle.std.proofs.Common.{subst, sym}
 use Rattle.std.proofs.lemmas.Result.{err_from_is_err_and}
 use Rattle.pbm_reader.specs.Left.{left_of}
 use Rattle.pbm_reader.proofs.HeaderLoop.{sizes_fail, header_taken}

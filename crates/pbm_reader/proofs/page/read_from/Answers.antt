@@ -1,4 +1,3 @@
-use Rattle.std.proofs.Common.{◌≡◌, ℕ, List, Option}
 use Rattle.std.proofs.lemmas.Result.{err_from_is_err_and}
 use Rattle.pbm_reader.specs.Left.{left_of}
 use Rattle.pbm_reader.proofs.WholePage.{raster_refuses, tail_refuses, top_rows, all_rows_given, page_read}

@@ -1,4 +1,4 @@
-use Rattle.std.proofs.Common.{◌≡◌, ℕ, List, length, refl, sym, ◌∙◌, arith}
+use Rattle.std.proofs.Common.{length, refl, ◌∙◌, arith}
 use Rattle.std.proofs.lemmas.Result.{err_from_is_err_and}
 use Rattle.pbm_reader.specs.Left.{left_of}
 use Rattle.pbm_reader.proofs.PixelLoop.{row_white, filling_begins, filling_on, filling_white, filling_fails, filled}

@@ -1,4 +1,4 @@
-use Rattle.std.proofs.Common.{◌≡◌, ℕ, Bool, cond, eqb, sym, ap, ◌∙◌, arith}
+use Rattle.std.proofs.Common.{Bool, cond, eqb, sym, ap, ◌∙◌, arith}
 use Rattle.pbm_reader.specs.Page.{pixel}
 use Rattle.pbm_reader.specs.Plain.{bit_of}
 use Rattle.pbm_reader.proofs.Pixels.{put_black}

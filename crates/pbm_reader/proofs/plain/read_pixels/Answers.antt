@@ -1,4 +1,4 @@
-use Rattle.std.proofs.Common.{◌≡◌, ℕ, sym, subst}
+use Rattle.std.proofs.Common.{ℕ, sym, subst}
 use Rattle.pbm_reader.specs.Left.{left_of}
 use Rattle.pbm_reader.specs.Page.{IsPackedRow}
 use Rattle.pbm_reader.proofs.PixelLoop.{row_packed}

@@ -1,4 +1,4 @@
-use Rattle.std.proofs.Common.{◌≡◌, ℕ, ◌+◌, ◌*◌, ◌∙◌, refl, subst, inl, arith}
+use Rattle.std.proofs.Common.{◌∙◌, refl, inl, arith}
 use Rattle.std.proofs.lemmas.Result.{err_from_is_err_and}
 use Rattle.pbm_reader.specs.Left.{left_of}
 use Rattle.pbm_reader.proofs.PlainRows.{no_pixels, one_more_row, row_fails, all_rows, rows_stop}

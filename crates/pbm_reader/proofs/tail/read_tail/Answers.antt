@@ -1,6 +1,5 @@
-use Rattle.std.proofs.Common.{◌≡◌, ℕ, ◌+◌, ◌<◌, ◌≤◌, [], ◌∷◌, Option, Some, Result, Ok, Err, true, subst, arith}
+use Rattle.std.proofs.Common.{◌≡◌, ℕ, ◌+◌, ◌<◌, [], ◌∷◌, Option, Some, Result, Ok, Err, subst, arith}
 use Rattle.std.specs.Prelude.{IfSome, OnOk, IfErr}
-use Rattle.pbm_reader.specs.declared.fault.PageFault.{PageFault}
 use Rattle.pbm_reader.specs.Spelling.{MayFollow}
 use Rattle.pbm_reader.specs.Left.{left_of, Took}
 use Rattle.pbm_reader.specs.Tail.{RestFails, TailFails, TookRest, TookTail}
