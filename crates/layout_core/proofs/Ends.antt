@@ -3,37 +3,47 @@ use Rattle.std.proofs.Common.{◌≡◌, ◌⊎◌, ℕ, List, Option, refl, ap,
 use Rattle.layout_outside.specs.Causes.{Rose}
 use Rattle.pbm_reader.specs.declared.fault.PageFault.{PageFault}
 use Rattle.pbm_reader.specs.declared.fault.PageFault.TheVariants as faults
+use Rattle.pbm_reader.specs.Fault.{HasFault}
+use Rattle.pbm_reader.specs.Reading.{Refuses}
+use Rattle.std.specs.Prelude.{IfSome}
 use Rattle.layout_core.specs.declared.refusal.Refusal.{Refusal}
 use Rattle.layout_core.specs.declared.refusal.Refusal.TheVariants as refusals
 use Rattle.layout_core.specs.Line.{line_of, fault_line}
-use Rattle.layout_core.specs.Status.{status_of, WritesLine, RefusesPage, RefusesComponents, RefusesLayout, IsUndecided, IsWantOfMemory}
+use Rattle.layout_core.specs.Status.{fault_status, status_of, WritesLine, RefusesPage, RefusesComponents, RefusesLayout, IsUndecided, IsWantOfMemory}
+
+-- a fault that is no failed read and no want of memory is the input's
+has_of : (old new : Option (List ℕ)) (fault : PageFault) → (fault_status fault ≡ 3) ⊎ (fault_status fault ≡ 4) → Refuses old new fault → IfSome old (λ input. HasFault input fault)
+has_of old new (faults.Magic at) s r = r
+has_of old new (faults.Header at) s r = r
+has_of old new faults.HeaderTooLong s r = r
+has_of old new faults.ZeroSize s r = r
+has_of old new (faults.TooLarge width height) s r = r
+has_of old new (faults.Truncated at) s r = r
+has_of old new (faults.Pixel at) s r = r
+has_of old new (faults.Trailing at) s r = r
+has_of old new faults.InputTooLong s r = r
+has_of old new faults.ReadFault (inl s) r = absurd (omega (arith, s))
+has_of old new faults.ReadFault (inr s) r = absurd (omega (arith, s))
+has_of old new faults.Memory (inl s) r = absurd (omega (arith, s))
+has_of old new faults.Memory (inr s) r = absurd (omega (arith, s))
 
 pub ends_bad : (old new err_old err_new : Option (List ℕ)) (before now : ℕ) (refusal : Refusal) → RefusesLayout old new refusal → WritesLine err_old err_new before now (line_of refusal)
-    → status_of refusal ≡ 3 → RefusesPage old err_old err_new before now
+    → status_of refusal ≡ 3 → RefusesPage 3 old err_old err_new before now
 unfolding line_of
-ends_bad old new err_old err_new before now (refusals.Page (faults.Magic at)) r line s = record { fault = faults.Magic at; status = refl; has = r; line = line }
-ends_bad old new err_old err_new before now (refusals.Page (faults.Header at)) r line s = record { fault = faults.Header at; status = refl; has = r; line = line }
-ends_bad old new err_old err_new before now (refusals.Page (faults.Truncated at)) r line s = record { fault = faults.Truncated at; status = refl; has = r; line = line }
-ends_bad old new err_old err_new before now (refusals.Page (faults.Trailing at)) r line s = record { fault = faults.Trailing at; status = refl; has = r; line = line }
-ends_bad old new err_old err_new before now (refusals.Page faults.ReadFault) r line s = absurd (omega (arith, s))
-ends_bad old new err_old err_new before now (refusals.Page faults.Memory) r line s = absurd (omega (arith, s))
+ends_bad old new err_old err_new before now (refusals.Page fault) r line s = record { fault = fault; status_is = s; has = has_of old new fault (inl s) r; line = line }
 ends_bad old new err_old err_new before now (refusals.TooMany count) r line s = absurd (omega (arith, s))
 ends_bad old new err_old err_new before now refusals.Memory r line s = absurd (omega (arith, s))
 ends_bad old new err_old err_new before now refusals.WriteFault r line s = absurd r
 ends_bad old new err_old err_new before now refusals.Usage r line s = absurd r
 
-pub ends_full : (old new err_old err_new : Option (List ℕ)) (before now : ℕ) (refusal : Refusal) → RefusesLayout old new refusal → WritesLine err_old err_new before now (line_of refusal)
-    → status_of refusal ≡ 4 → RefusesComponents old new err_old err_new before now
-ends_full old new err_old err_new before now (refusals.Page (faults.Magic at)) r line s = absurd (omega (arith, s))
-ends_full old new err_old err_new before now (refusals.Page (faults.Header at)) r line s = absurd (omega (arith, s))
-ends_full old new err_old err_new before now (refusals.Page (faults.Truncated at)) r line s = absurd (omega (arith, s))
-ends_full old new err_old err_new before now (refusals.Page (faults.Trailing at)) r line s = absurd (omega (arith, s))
-ends_full old new err_old err_new before now (refusals.Page faults.ReadFault) r line s = absurd (omega (arith, s))
-ends_full old new err_old err_new before now (refusals.Page faults.Memory) r line s = absurd (omega (arith, s))
-ends_full old new err_old err_new before now (refusals.TooMany count) r line s = record { count = count; too_many = r; line = line }
-ends_full old new err_old err_new before now refusals.Memory r line s = absurd (omega (arith, s))
-ends_full old new err_old err_new before now refusals.WriteFault r line s = absurd r
-ends_full old new err_old err_new before now refusals.Usage r line s = absurd r
+pub ends_limited : (old new err_old err_new : Option (List ℕ)) (before now : ℕ) (refusal : Refusal) → RefusesLayout old new refusal → WritesLine err_old err_new before now (line_of refusal)
+    → status_of refusal ≡ 4 → RefusesPage 4 old err_old err_new before now ⊎ RefusesComponents old new err_old err_new before now
+unfolding line_of
+ends_limited old new err_old err_new before now (refusals.Page fault) r line s = inl (record { fault = fault; status_is = s; has = has_of old new fault (inr s) r; line = line })
+ends_limited old new err_old err_new before now (refusals.TooMany count) r line s = inr (record { count = count; too_many = r; line = line })
+ends_limited old new err_old err_new before now refusals.Memory r line s = absurd (omega (arith, s))
+ends_limited old new err_old err_new before now refusals.WriteFault r line s = absurd r
+ends_limited old new err_old err_new before now refusals.Usage r line s = absurd r
 
 pub ends_unread : (old new err_old err_new : Option (List ℕ)) (before now first last : ℕ) (refusal : Refusal) → RefusesLayout old new refusal → (refusal ≡ refusals.Page faults.ReadFault → Rose first last)
     → WritesLine err_old err_new before now (line_of refusal) → status_of refusal ≡ 5
@@ -41,6 +51,11 @@ pub ends_unread : (old new err_old err_new : Option (List ℕ)) (before now firs
 unfolding line_of
 ends_unread old new err_old err_new before now first last (refusals.Page (faults.Magic at)) r rose line s = absurd (omega (arith, s))
 ends_unread old new err_old err_new before now first last (refusals.Page (faults.Header at)) r rose line s = absurd (omega (arith, s))
+ends_unread old new err_old err_new before now first last (refusals.Page faults.HeaderTooLong) r rose line s = absurd (omega (arith, s))
+ends_unread old new err_old err_new before now first last (refusals.Page faults.ZeroSize) r rose line s = absurd (omega (arith, s))
+ends_unread old new err_old err_new before now first last (refusals.Page (faults.TooLarge width height)) r rose line s = absurd (omega (arith, s))
+ends_unread old new err_old err_new before now first last (refusals.Page (faults.Pixel at)) r rose line s = absurd (omega (arith, s))
+ends_unread old new err_old err_new before now first last (refusals.Page faults.InputTooLong) r rose line s = absurd (omega (arith, s))
 ends_unread old new err_old err_new before now first last (refusals.Page (faults.Truncated at)) r rose line s = absurd (omega (arith, s))
 ends_unread old new err_old err_new before now first last (refusals.Page (faults.Trailing at)) r rose line s = absurd (omega (arith, s))
 ends_unread old new err_old err_new before now first last (refusals.Page faults.ReadFault) r rose line s = (rose refl, r, line)
@@ -55,6 +70,11 @@ pub ends_unmade : (err_old err_new : Option (List ℕ)) (before now : ℕ) (refu
 unfolding line_of
 ends_unmade err_old err_new before now (refusals.Page (faults.Magic at)) line s = absurd (omega (arith, s))
 ends_unmade err_old err_new before now (refusals.Page (faults.Header at)) line s = absurd (omega (arith, s))
+ends_unmade err_old err_new before now (refusals.Page faults.HeaderTooLong) line s = absurd (omega (arith, s))
+ends_unmade err_old err_new before now (refusals.Page faults.ZeroSize) line s = absurd (omega (arith, s))
+ends_unmade err_old err_new before now (refusals.Page (faults.TooLarge width height)) line s = absurd (omega (arith, s))
+ends_unmade err_old err_new before now (refusals.Page (faults.Pixel at)) line s = absurd (omega (arith, s))
+ends_unmade err_old err_new before now (refusals.Page faults.InputTooLong) line s = absurd (omega (arith, s))
 ends_unmade err_old err_new before now (refusals.Page (faults.Truncated at)) line s = absurd (omega (arith, s))
 ends_unmade err_old err_new before now (refusals.Page (faults.Trailing at)) line s = absurd (omega (arith, s))
 ends_unmade err_old err_new before now (refusals.Page faults.ReadFault) line s = absurd (omega (arith, s))

@@ -9,12 +9,21 @@ use Rattle.layout_core.specs.declared.refusal.Refusal.TheVariants as refusals
 abbrev pub place_line : List ℕ → ℕ → List ℕ
 place_line what at = codes "bad page: " ++ what ++ codes " at " ++ decimal at ++ codes "\n"
 
+-- the sizes of a page that is too large
+abbrev pub size_line : ℕ → ℕ → List ℕ
+size_line width height = codes "limit: size " ++ decimal width ++ codes " by " ++ decimal height ++ codes "\n"
+
 -- the line of a page that was not read
 abbrev pub fault_line : PageFault → List ℕ
 fault_line (faults.Magic at) = place_line (codes "magic") at
 fault_line (faults.Header at) = place_line (codes "header") at
+fault_line faults.HeaderTooLong = codes "limit: header over 65536 bytes\n"
+fault_line faults.ZeroSize = codes "bad page: zero size\n"
+fault_line (faults.TooLarge width height) = size_line width height
 fault_line (faults.Truncated at) = place_line (codes "truncated") at
+fault_line (faults.Pixel at) = place_line (codes "pixel") at
 fault_line (faults.Trailing at) = place_line (codes "trailing") at
+fault_line faults.InputTooLong = codes "limit: input over 268435456 bytes\n"
 fault_line faults.ReadFault = codes "read failed\n"
 fault_line faults.Memory = codes "out of memory\n"
 

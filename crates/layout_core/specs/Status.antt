@@ -18,6 +18,9 @@ HasPlan words = words ≡ []
 
 -- the status of a page that was not read
 abbrev pub fault_status : PageFault → ℕ
+fault_status faults.HeaderTooLong = 4
+fault_status (faults.TooLarge width height) = 4
+fault_status faults.InputTooLong = 4
 fault_status faults.ReadFault = 5
 fault_status faults.Memory = 7
 fault_status fault = 3
@@ -64,10 +67,10 @@ pub record HasRefusalCause {T : Type 0} (before now : ℕ) (result : Result T Re
   pub later : before ≤ now
   pub failed : result ≡ Err (refusals.Page faults.ReadFault) → Rose before now
 
--- the input has a fault, and the line that names it was written
-pub record RefusesPage (left err_old err_new : Option (List ℕ)) (before now : ℕ) : Type 0 where
+-- the input has a fault of this status, and the line that names it was written
+pub record RefusesPage (status : ℕ) (left err_old err_new : Option (List ℕ)) (before now : ℕ) : Type 0 where
   pub fault : PageFault
-  pub status : fault_status fault ≡ 3
+  pub status_is : fault_status fault ≡ status
   pub has : IfSome left (λ input. HasFault input fault)
   pub line : WritesLine err_old err_new before now (fault_line fault)
 

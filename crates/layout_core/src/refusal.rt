@@ -1,6 +1,6 @@
 //! How a run ends without a document: its status, and its line on `err`.
 ghost use Rattle.std.specs.Prelude.{◌≡◌, ◌++◌, ◌≤◌, length, codes, decimal};
-ghost use Rattle.layout_core.specs.Line.{place_line, fault_line, line_of};
+ghost use Rattle.layout_core.specs.Line.{place_line, size_line, fault_line, line_of};
 ghost use Rattle.layout_core.specs.Status.{fault_status, status_of, WritesLine};
 
 use crate::page_layout::CoreFault;
@@ -98,8 +98,11 @@ fn status_of_fault(fault: &PageFault) -> u8
     match fault {
         PageFault::Magic { .. }
         | PageFault::Header { .. }
+        | PageFault::ZeroSize
         | PageFault::Truncated { .. }
+        | PageFault::Pixel { .. }
         | PageFault::Trailing { .. } => 3,
+        PageFault::HeaderTooLong | PageFault::TooLarge { .. } | PageFault::InputTooLong => 4,
         PageFault::ReadFault => 5,
         PageFault::Memory => 7,
     }
@@ -112,8 +115,13 @@ fn line_of_fault(fault: &PageFault) -> Line
     match fault {
         PageFault::Magic { at } => line_of_place("magic", *at),
         PageFault::Header { at } => line_of_place("header", *at),
+        PageFault::HeaderTooLong => line_from("limit: header over 65536 bytes\n"),
+        PageFault::ZeroSize => line_from("bad page: zero size\n"),
+        PageFault::TooLarge { width, height } => line_of_size(*width, *height),
         PageFault::Truncated { at } => line_of_place("truncated", *at),
+        PageFault::Pixel { at } => line_of_place("pixel", *at),
         PageFault::Trailing { at } => line_of_place("trailing", *at),
+        PageFault::InputTooLong => line_from("limit: input over 268435456 bytes\n"),
         PageFault::ReadFault => line_from("read failed\n"),
         PageFault::Memory => line_from("out of memory\n"),
     }
@@ -140,6 +148,20 @@ fn line_of_place(what: &str, at: u64) -> Line
     line.push_str(what);
     line.push_str(" at ");
     line.push_str(buffer.format(at));
+    line.push_str("\n");
+    line
+}
+
+/// The line that tells the sizes of a page that is too large.
+fn line_of_size(width: u32, height: u32) -> Line
+    ensures { result.bytes ≡ size_line width height }
+{
+    let mut buffer = Buffer::new();
+    let mut line = Line::new();
+    line.push_str("limit: size ");
+    line.push_str(buffer.format(width));
+    line.push_str(" by ");
+    line.push_str(buffer.format(height));
     line.push_str("\n");
     line
 }

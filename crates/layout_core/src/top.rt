@@ -8,7 +8,7 @@ ghost use Rattle.pbm_reader.specs.Fault.{HasFault};
 ghost use Rattle.layout_core.specs.Layouts.{HasFewComponents, HasTooMany};
 ghost use Rattle.layout_core.specs.Run.{WritesDocument, FrontOfDocument};
 ghost use Rattle.layout_core.specs.Line.{line_of, fault_line};
-ghost use Rattle.layout_core.specs.Status.{HasPlan, IsStatus, WritesLine, RefusesPage, RefusesComponents, IsUndecided};
+ghost use Rattle.layout_core.specs.Status.{HasPlan, IsStatus, fault_status, WritesLine, RefusesPage, RefusesComponents, IsUndecided};
 ghost use Rattle.layout_core.specs.declared.refusal.Refusal.{Refusal};
 
 use crate::reading::read_layout;
@@ -21,8 +21,9 @@ use std::alloc::Global;
 ///
 /// - 0: the input was read to its end, and the page's document was written whole;
 /// - 2: there is a word, and no word is understood yet; nothing was read;
-/// - 3: the input spells no page in the narrow form of Netpbm's raw PBM;
-/// - 4: more than 60,000 components of the page are kept;
+/// - 3: the input spells no page in Netpbm's PBM;
+/// - 4: the header, the sizes or the input are beyond the limits, or more than 60,000 components of
+///   the page are kept;
 /// - 5: a read failed before the bytes that were taken decided a fault of the input;
 /// - 6: a write to `out` failed, and a proper front of the document was written;
 /// - 7: memory was refused.
@@ -46,15 +47,17 @@ pub fn layout_alone<S: Source, K: Sink, E: Sink>(
     ensures usage { result ≡ 2 → ¬ HasPlan words.now × (src.new ≡ src.old)
         × WritesLine (E.written err.old) (E.written err.new) (E.faults err.old) (E.faults err.new) (line_of Refusal.Usage) }
 
-    // 3 comes exactly where the input has a fault and the run reaches it, and the line names the fault.
-    ensures bad_page { result ≡ 3 → RefusesPage (S.left src.old)
+    // 3 or 4 comes exactly where the input has a fault of that status and the run reaches it, and the line names the fault.
+    ensures bad_page { result ≡ 3 → RefusesPage 3 (S.left src.old)
         (E.written err.old) (E.written err.new) (E.faults err.old) (E.faults err.new) }
     ensures faulty { HasPlan words.now → (input : List ℕ) (fault : PageFault) → S.left src.old ≡ Some input → HasFault input fault
-        → ¬ Rose (S.faults src.old) (S.faults src.new) → (result ≡ 3) ⊎ (result ≡ 7) }
+        → ¬ Rose (S.faults src.old) (S.faults src.new) → (result ≡ fault_status fault) ⊎ (result ≡ 7) }
 
-    // 4 comes exactly where more than 60,000 components are kept and the run reaches it, and the line counts them.
-    ensures too_many { result ≡ 4 → RefusesComponents (S.left src.old) (S.left src.new)
-        (E.written err.old) (E.written err.new) (E.faults err.old) (E.faults err.new) }
+    // 4 comes also exactly where more than 60,000 components are kept and the run reaches it, and the line counts them.
+    ensures limited { result ≡ 4 → RefusesPage 4 (S.left src.old)
+            (E.written err.old) (E.written err.new) (E.faults err.old) (E.faults err.new)
+        ⊎ RefusesComponents (S.left src.old) (S.left src.new)
+            (E.written err.old) (E.written err.new) (E.faults err.old) (E.faults err.new) }
     ensures limit { HasPlan words.now → (input : List ℕ) (page : Page) (count : ℕ) → S.left src.old ≡ Some input → Spells input page
         → HasTooMany page count → ¬ Rose (S.faults src.old) (S.faults src.new) → (result ≡ 4) ⊎ (result ≡ 7) }
 

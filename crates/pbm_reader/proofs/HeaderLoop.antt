@@ -1,87 +1,233 @@
--- A header's loop keeps what the header will be, and each refusal is the fault of the input.
-use Rattle.std.proofs.Common.{◌≡◌, ℕ, ◌+◌, Bool, true, false, cond, eqb, List, [], ◌∷◌, ◌++◌, Option, Some, None, Ok, refl, ap, ◌∙◌, append_assoc}
+-- A header's loop keeps what was read of it, and each refusal is the fault of the input.
+use Rattle.std.proofs.Common.{◌≡◌, ℕ, ◌+◌, ◌<◌, ◌≤◌, min, Bool, true, false, List, [], ◌∷◌, ◌++◌, length, Option, Some, None, option_and_then, refl, sym, ap, subst, ◌∙◌, append_assoc, append-nil, inl, inr, arith}
 use Rattle.std.specs.Prelude.{IfSome}
-use Rattle.pbm_reader.specs.declared.state.HeaderState.{HeaderState}
-use Rattle.pbm_reader.specs.declared.state.HeaderState.TheVariants.{Magic, Kind, Line, WidthFirst, Width, HeightFirst, Height}
-use Rattle.pbm_reader.specs.declared.state.Progress.TheVariants.{Going, Whole}
+use Rattle.std.proofs.lemmas.List.{length-append}
+use Rattle.pbm_reader.specs.declared.form.Form.{Form}
+use Rattle.pbm_reader.specs.declared.header.Told.{Told}
 use Rattle.pbm_reader.specs.declared.fault.Size.{Size}
+use Rattle.pbm_reader.specs.declared.fault.PageFault.{PageFault}
 use Rattle.pbm_reader.specs.declared.fault.PageFault.TheVariants as faults
-use Rattle.pbm_reader.specs.Header.{next_state, header_at, wrong_byte, missing_byte}
-use Rattle.pbm_reader.specs.Fault.{HasFault}
-use Rattle.pbm_reader.specs.Left.{Took, TookAll}
+use Rattle.pbm_reader.specs.declared.state.HeaderState.{HeaderState}
+use Rattle.pbm_reader.specs.declared.state.HeaderState.TheVariants.{Magic, Kind, Named, WidthGap, WidthComment, Width, HeightGap, HeightComment, Height, Whole}
+use Rattle.pbm_reader.specs.Page.{IsPageSize}
+use Rattle.pbm_reader.specs.Spelling.{IsHeader}
+use Rattle.pbm_reader.specs.Header.{next_state, wrong_byte, missing_byte}
+use Rattle.pbm_reader.specs.Fault.{HasFault, HasFaultWithin, IsSizeFault, DecidesNothing, IsTruncated, IsHeaderTooLong}
+use Rattle.pbm_reader.specs.Left.{Took, TookAll, TookSizes, TookHeader}
 use Rattle.pbm_reader.specs.Reading.{Refuses}
 use Rattle.pbm_reader.proofs.Taken.{took_more, took_all, prepend_nothing, of_all, of_end}
-use Rattle.pbm_reader.proofs.FaultLaws.{header_refused, front_of}
-use Rattle.pbm_reader.proofs.PageLaws.{front_page, undecided}
+use Rattle.pbm_reader.proofs.Machines.{run, run_append, IsOpen}
+use Rattle.pbm_reader.proofs.HeaderWalk.{is_whole, header_machine, read_header}
+use Rattle.pbm_reader.proofs.Faults.{IsNamed, read_so_far, header_cut, wrong_fault, missing_fault, too_long, size_fault, told_size}
+use Rattle.pbm_reader.proofs.Judged.{has_fault, nothing_undecided, letter_undecided, cut_undecided}
 
--- a header is read so far: what follows the bytes taken decides it from this state
+-- these bytes of a header were taken, and lead to this state
 pub record IsReading (old now : Option (List ℕ)) (at : ℕ) (state : HeaderState) : Type 0 where
   pub taken : List ℕ
   pub took : Took old now taken
-  pub same : (rest : List ℕ) → header_at 0 Magic (taken ++ rest) ≡ header_at at state rest
+  pub len : length taken ≡ at
+  pub leads : IsOpen header_machine taken state
 
 pub begins : (old : Option (List ℕ)) → IsReading old old 0 Magic
-begins old = record { taken = []; took = prepend_nothing old; same = λ rest. refl }
+begins old = record { taken = []; took = prepend_nothing old; len = refl; leads = record { reads = refl; open_yet = refl } }
 
--- what the bytes taken and one more byte are, whatever follows
-one_more : (old middle new : Option (List ℕ)) (at byte : ℕ) (state : HeaderState) (r : IsReading old middle at state) (rest : List ℕ)
-    → header_at 0 Magic ((r.taken ++ byte ∷ []) ++ rest) ≡ header_at at state (byte ∷ rest)
-one_more old middle new at byte state r rest = ap (λ (l : List ℕ). header_at 0 Magic l) (append_assoc r.taken (byte ∷ []) rest) ∙ r.same (byte ∷ rest)
+one_more : (taken : List ℕ) (byte : ℕ) (state next : HeaderState) → run next_state Magic taken ≡ Some state → next_state state byte ≡ Some next → run next_state Magic (taken ++ byte ∷ []) ≡ Some next
+one_more taken byte state next reads step =
+    run_append next_state Magic state taken (byte ∷ []) reads ∙ ap (λ (o : Option HeaderState). option_and_then (λ n. run next_state n []) o) step
 
 pub reading_on : (old middle new : Option (List ℕ)) (at byte : ℕ) (state next : HeaderState) → IsReading old middle at state → Took middle new (byte ∷ [])
-    → next_state state byte ≡ Some (Going next) → IsReading old new (at + 1) next
-unfolding header_at
-reading_on old middle new at byte state next r took step = record {
+    → next_state state byte ≡ Some next → is_whole next ≡ false → IsReading old new (at + 1) next
+reading_on old middle new at byte state next r took step o = record {
   taken = r.taken ++ byte ∷ [];
   took = took_more old middle new r.taken (byte ∷ []) r.took took;
-  same = λ rest. one_more old middle new at byte state r rest ∙ rw step refl;
+  len = omega (arith, length-append r.taken (byte ∷ []), r.len);
+  leads = record { reads = one_more r.taken byte state next r.leads.reads step; open_yet = o };
 }
 
-pub reading_whole : (old middle new : Option (List ℕ)) (at byte : ℕ) (state : HeaderState) (size : Size) → IsReading old middle at state → Took middle new (byte ∷ [])
-    → next_state state byte ≡ Some (Whole size)
-    → (taken : List ℕ) × Took old new taken × ((rest : List ℕ) → header_at 0 Magic (taken ++ rest) ≡ Ok (record { size = size; len = at + 1 }, rest))
-unfolding header_at
-reading_whole old middle new at byte state size r took step =
-    (r.taken ++ byte ∷ [], took_more old middle new r.taken (byte ∷ []) r.took took, λ rest. one_more old middle new at byte state r rest ∙ rw step refl)
+pub reading_whole : (old middle new : Option (List ℕ)) (at byte : ℕ) (state : HeaderState) (form : Form) (width height : ℕ) → IsReading old middle at state → Took middle new (byte ∷ [])
+    → next_state state byte ≡ Some (Whole form width height) → at < 65536 → TookSizes old new (record { form = form; width = width; height = height; len = at + 1 })
+reading_whole old middle new at byte state form width height r took step low =
+    let h = read_header (r.taken ++ byte ∷ []) (Whole form width height) (one_more r.taken byte state (Whole form width height) r.leads.reads step) refl in
+    let len = length-append r.taken (byte ∷ []) in
+    record {
+      bytes = r.taken ++ byte ∷ [];
+      took = took_more old middle new r.taken (byte ∷ []) r.took took;
+      width = h.width;
+      height = h.height;
+      is_header = subst (λ (f : Form). IsHeader (r.taken ++ byte ∷ []) f h.width h.height) (form_is h.form form (min h.width 999999999) (min h.height 999999999) width height (sym h.told)) h.is_header;
+      width_told = width_is form h.form width height (min h.width 999999999) (min h.height 999999999) h.told;
+      height_told = height_is form h.form width height (min h.width 999999999) (min h.height 999999999) h.told;
+      len = omega (arith, len, r.len);
+      short = omega (arith, len, r.len, low);
+    }
+  where
+    form_is : (f g : Form) (a b c d : ℕ) → Whole f a b ≡ Whole g c d → f ≡ g
+    form_is f g a b c d e = cc
 
-reading_wrong : (old middle new : Option (List ℕ)) (at byte : ℕ) (state : HeaderState) → IsReading old middle at state → Took middle new (byte ∷ [])
-    → next_state state byte ≡ None → IfSome old (λ input. HasFault input (wrong_byte state byte at))
-unfolding header_at
-reading_wrong old middle new at byte state r took step =
-    of_all (λ input. HasFault input (wrong_byte state byte at)) old new (r.taken ++ byte ∷ []) (took_more old middle new r.taken (byte ∷ []) r.took took)
-    (λ rest. header_refused ((r.taken ++ byte ∷ []) ++ rest) (wrong_byte state byte at) (one_more old middle new at byte state r rest ∙ rw step refl))
+    width_is : (f g : Form) (a b c d : ℕ) → Whole f a b ≡ Whole g c d → a ≡ c
+    width_is f g a b c d e = cc
 
-reading_end : (old middle new : Option (List ℕ)) (at : ℕ) (state : HeaderState) → IsReading old middle at state → TookAll middle new []
-    → IfSome old (λ input. HasFault input (missing_byte state at))
-unfolding header_at
-reading_end old middle new at state r took =
-    of_end (λ input. HasFault input (missing_byte state at)) old new (r.taken ++ []) (took_all old middle new r.taken [] r.took took)
-    (header_refused (r.taken ++ []) (missing_byte state at) (r.same []))
+    height_is : (f g : Form) (a b c d : ℕ) → Whole f a b ≡ Whole g c d → b ≡ d
+    height_is f g a b c d e = cc
+
+-- a state that is no whole header
+pub not_whole : (s : HeaderState) → ((form : Form) (width height : ℕ) → s ≡ Whole form width height → ⊥) → is_whole s ≡ false
+not_whole Magic other = refl
+not_whole Kind other = refl
+not_whole (Named form) other = refl
+not_whole (WidthGap form) other = refl
+not_whole (WidthComment form) other = refl
+not_whole (Width form width) other = refl
+not_whole (HeightGap form width) other = refl
+not_whole (HeightComment form width) other = refl
+not_whole (Height form width height) other = refl
+not_whole (Whole form width height) other = absurd (other form width height refl)
+
+-- ---- refusals
+
+-- a fault of the input is a refusal
+pub refused : (old new : Option (List ℕ)) (fault : PageFault) → (fault ≡ faults.ReadFault → ⊥) → IfSome old (λ input. HasFault input fault) → Refuses old new fault
+refused old new (faults.Magic at) other f = f
+refused old new (faults.Header at) other f = f
+refused old new faults.HeaderTooLong other f = f
+refused old new faults.ZeroSize other f = f
+refused old new (faults.TooLarge width height) other f = f
+refused old new (faults.Truncated at) other f = f
+refused old new (faults.Pixel at) other f = f
+refused old new (faults.Trailing at) other f = f
+refused old new faults.InputTooLong other f = f
+refused old new faults.ReadFault other f = absurd (other refl)
+refused old new faults.Memory other f = tt
+
+wrong_other : (state : HeaderState) (at : ℕ) → wrong_byte state at ≡ faults.ReadFault → ⊥
+wrong_other Magic at e = cc
+wrong_other Kind at e = cc
+wrong_other (Named form) at e = cc
+wrong_other (WidthGap form) at e = cc
+wrong_other (WidthComment form) at e = cc
+wrong_other (Width form width) at e = cc
+wrong_other (HeightGap form width) at e = cc
+wrong_other (HeightComment form width) at e = cc
+wrong_other (Height form width height) at e = cc
+wrong_other (Whole form width height) at e = cc
+
+missing_other : (state : HeaderState) (at : ℕ) → missing_byte state at ≡ faults.ReadFault → ⊥
+missing_other Magic at e = cc
+missing_other Kind at e = cc
+missing_other (Named form) at e = cc
+missing_other (WidthGap form) at e = cc
+missing_other (WidthComment form) at e = cc
+missing_other (Width form width) at e = cc
+missing_other (HeightGap form width) at e = cc
+missing_other (HeightComment form width) at e = cc
+missing_other (Height form width height) at e = cc
+missing_other (Whole form width height) at e = cc
 
 pub wrong_fails : (old middle new : Option (List ℕ)) (at byte : ℕ) (state : HeaderState) → IsReading old middle at state → Took middle new (byte ∷ [])
-    → next_state state byte ≡ None → Refuses old new (wrong_byte state byte at)
-wrong_fails old middle new at byte Magic r took step = reading_wrong old middle new at byte Magic r took step
-wrong_fails old middle new at byte Kind r took step = by_kind (eqb byte 49) (reading_wrong old middle new at byte Kind r took step)
-  where
-    by_kind : (b : Bool) → IfSome old (λ input. HasFault input (cond b (faults.Header at) (faults.Magic at))) → Refuses old new (cond b (faults.Header at) (faults.Magic at))
-    by_kind true h = h
-    by_kind false h = h
-wrong_fails old middle new at byte Line r took step = reading_wrong old middle new at byte Line r took step
-wrong_fails old middle new at byte WidthFirst r took step = reading_wrong old middle new at byte WidthFirst r took step
-wrong_fails old middle new at byte (Width width) r took step = reading_wrong old middle new at byte (Width width) r took step
-wrong_fails old middle new at byte (HeightFirst width) r took step = reading_wrong old middle new at byte (HeightFirst width) r took step
-wrong_fails old middle new at byte (Height width height) r took step = reading_wrong old middle new at byte (Height width height) r took step
+    → next_state state byte ≡ None → at < 65536 → Refuses old new (wrong_byte state at)
+wrong_fails old middle new at byte state r took step low =
+    let fault = wrong_byte state at in
+    refused old new fault (wrong_other state at)
+    (of_all (λ input. HasFault input fault) old new (r.taken ++ byte ∷ []) (took_more old middle new r.taken (byte ∷ []) r.took took)
+      (λ rest.
+        let P : List ℕ → Type 0 = λ l. HasFault l fault in
+        let here = wrong_fault r.taken byte rest state r.leads step (omega (arith, r.len, low)) in
+        subst P (sym (append_assoc r.taken (byte ∷ []) rest))
+        (has_fault (r.taken ++ byte ∷ rest) fault (subst (λ (n : ℕ). HasFaultWithin (r.taken ++ byte ∷ rest) (wrong_byte state n)) r.len here))))
 
-pub end_fails : (old middle new : Option (List ℕ)) (at : ℕ) (state : HeaderState) → IsReading old middle at state → TookAll middle new []
+pub end_fails : (old middle new : Option (List ℕ)) (at : ℕ) (state : HeaderState) → IsReading old middle at state → TookAll middle new [] → at ≤ 65536
     → Refuses old new (missing_byte state at)
-end_fails old middle new at Magic r took = reading_end old middle new at Magic r took
-end_fails old middle new at Kind r took = reading_end old middle new at Kind r took
-end_fails old middle new at Line r took = reading_end old middle new at Line r took
-end_fails old middle new at WidthFirst r took = reading_end old middle new at WidthFirst r took
-end_fails old middle new at (Width width) r took = reading_end old middle new at (Width width) r took
-end_fails old middle new at (HeightFirst width) r took = reading_end old middle new at (HeightFirst width) r took
-end_fails old middle new at (Height width height) r took = reading_end old middle new at (Height width height) r took
+end_fails old middle new at state r took low =
+    let fault = missing_byte state at in
+    let P : List ℕ → Type 0 = λ l. HasFault l fault in
+    let here = missing_fault r.taken state r.leads (omega (arith, r.len, low)) in
+    refused old new fault (missing_other state at)
+    (of_end (λ input. HasFault input fault) old new (r.taken ++ []) (took_all old middle new r.taken [] r.took took)
+      (subst P (sym (append-nil r.taken)) (has_fault r.taken fault (subst (λ (n : ℕ). HasFaultWithin r.taken (missing_byte state n)) r.len here))))
+
+-- the name of a form was read
+named : (old now : Option (List ℕ)) (state : HeaderState) → (r : IsReading old now 65536 state) → IsNamed r.taken state
+named old now state r =
+    elim (read_so_far r.taken state r.leads.reads) [
+      | inl m ↦ absurd (omega (arith, ap length m.0, r.len))
+      | inr m ↦
+          elim m [
+            | inl k ↦ absurd (omega (arith, ap length k.0, r.len))
+            | inr n ↦ n
+          ]
+    ]
+
+-- the input ends behind 65,536 bytes of a header
+pub limit_end : (old middle new : Option (List ℕ)) (state : HeaderState) → IsReading old middle 65536 state → TookAll middle new [] → IfSome old (λ input. IsTruncated input 65536)
+limit_end old middle new state r took =
+    let cut = header_cut r.taken state r.leads (named old middle state r) (omega (arith, r.len)) in
+    let P : List ℕ → Type 0 = λ l. IsTruncated l 65536 in
+    of_end (λ input. IsTruncated input 65536) old new (r.taken ++ []) (took_all old middle new r.taken [] r.took took)
+    (subst P (sym (append-nil r.taken)) (subst (λ (n : ℕ). IsTruncated r.taken n) r.len cut))
+
+-- the input goes on behind 65,536 bytes of a header
+pub limit_more : (old middle new : Option (List ℕ)) (byte : ℕ) (state : HeaderState) → IsReading old middle 65536 state → Took middle new (byte ∷ []) → IfSome old (λ input. IsHeaderTooLong input)
+limit_more old middle new byte state r took =
+    of_all (λ input. IsHeaderTooLong input) old new (r.taken ++ byte ∷ []) (took_more old middle new r.taken (byte ∷ []) r.took took)
+    (λ rest.
+      let P : List ℕ → Type 0 = λ l. IsHeaderTooLong l in
+      subst P (sym (append_assoc r.taken (byte ∷ []) rest))
+      (too_long r.taken (byte ∷ rest) state r.leads.reads (omega (arith, r.len)) (omega (arith, length-append r.taken (byte ∷ rest), r.len))
+        (λ w. absurd (not_both (is_whole state) w r.leads.open_yet))))
+  where
+    not_both : (b : Bool) → b ≡ true → b ≡ false → ⊥
+    not_both b p q = cc
 
 -- a read that fails while a header is read decides nothing
-pub reading_undecided : (old new : Option (List ℕ)) (at : ℕ) (state : HeaderState) → IsReading old new at state → Refuses old new faults.ReadFault
-reading_undecided old new at state r = (r.taken, r.took, undecided r.taken (front_page r.taken (front_of r.taken at state r.same)))
+pub reading_undecided : (old new : Option (List ℕ)) (at : ℕ) (state : HeaderState) → IsReading old new at state → at ≤ 65536 → Refuses old new faults.ReadFault
+reading_undecided old new at state r low =
+    (r.taken, r.took,
+      elim (read_so_far r.taken state r.leads.reads) [
+        | inl m ↦ subst DecidesNothing (sym m.0) nothing_undecided
+        | inr m ↦
+            elim m [
+              | inl k ↦ subst DecidesNothing (sym k.0) letter_undecided
+              | inr n ↦ cut_undecided r.taken (length r.taken) (header_cut r.taken state r.leads n (omega (arith, r.len, low)))
+            ]
+      ])
+
+-- ---- the sizes
+
+pub sizes_fail : (old new : Option (List ℕ)) (told : Told) (fault : PageFault) → TookSizes old new told → IsSizeFault told.width told.height fault → Refuses old new fault
+sizes_fail old new told fault t f =
+    let P : ℕ → Type 0 = λ n. IsSizeFault n told.height fault in
+    let Q : ℕ → Type 0 = λ n. IsSizeFault (min t.width 999999999) n fault in
+    let here = subst Q t.height_told (subst P t.width_told f) in
+    refused old new fault (other fault f)
+    (of_all (λ input. HasFault input fault) old new t.bytes t.took
+      (λ rest. has_fault (t.bytes ++ rest) fault (size_fault t.bytes rest told.form t.width t.height fault t.is_header t.short here)))
+  where
+    other : (k : PageFault) → IsSizeFault told.width told.height k → k ≡ faults.ReadFault → ⊥
+    other faults.ZeroSize s e = cc
+    other (faults.TooLarge wide high) s e = cc
+    other (faults.Magic at) s e = s
+    other (faults.Header at) s e = s
+    other faults.HeaderTooLong s e = s
+    other (faults.Truncated at) s e = s
+    other (faults.Pixel at) s e = s
+    other (faults.Trailing at) s e = s
+    other faults.InputTooLong s e = s
+    other faults.ReadFault s e = s
+    other faults.Memory s e = s
+
+pub header_taken : (old new : Option (List ℕ)) (told : Told) (size : Size) → TookSizes old new told → IsPageSize told.width told.height × (size.width ≡ told.width) × (size.height ≡ told.height)
+    → TookHeader old new (record { form = told.form; size = size; len = told.len })
+header_taken old new told size t s =
+    let P : ℕ → Type 0 = λ n. IsPageSize n told.height in
+    let Q : ℕ → Type 0 = λ n. IsPageSize (min t.width 999999999) n in
+    let e = told_size t.width t.height (subst Q t.height_told (subst P t.width_told s.0)) in
+    let wide : size.width ≡ t.width = s.1 ∙ t.width_told ∙ e.0 in
+    let high : size.height ≡ t.height = s.2 ∙ t.height_told ∙ e.1 in
+    record {
+      bytes = t.bytes;
+      took = t.took;
+      is_header = subst (λ (n : ℕ). IsHeader t.bytes told.form n size.height) (sym wide) (subst (λ (n : ℕ). IsHeader t.bytes told.form t.width n) (sym high) t.is_header);
+      size = subst (λ (n : ℕ). IsPageSize n size.height) (sym s.1) (subst (λ (n : ℕ). IsPageSize told.width n) (sym s.2) s.0);
+      len = t.len;
+      short = t.short;
+    }

@@ -1,8 +1,9 @@
 -- The pixels of packed bytes.
-use Rattle.std.proofs.Common.{◌≡◌, ◌≢◌, ℕ, zero, suc, ◌+◌, ◌-◌, ◌*◌, ◌/◌, ◌%◌, ◌^◌, ◌<◌, ◌≤◌, List, length, get_or, set, sym, ap, ◌∙◌, inl, inr, arith}
+use Rattle.std.proofs.Common.{◌≡◌, ◌≢◌, ◌⊎◌, Bool, true, false, cond, eqb, bit_or, w8, refl, ℕ, zero, suc, ◌+◌, ◌-◌, ◌*◌, ◌/◌, ◌%◌, ◌^◌, ◌<◌, ◌≤◌, List, length, get_or, set, sym, ap, ◌∙◌, inl, inr, arith}
 use Rattle.std.proofs.Math.Nat.{div-div-eq-div-mul}
 use Rattle.std.proofs.lemmas.Nat.{mod-pow-add}
-use Rattle.std.proofs.lemmas.Nat.Bits.{bit_at-zero, bit_at-suc, bit_at_lowest}
+use Rattle.std.proofs.lemmas.Nat.Bits.{bit_at-zero, bit_at-suc, bit_at_lowest, bit_at_set_same, bit_at_set_other}
+use Rattle.std.proofs.lemmas.Bool.Decides.{nat_tests}
 use Rattle.std.proofs.lemmas.Bool.{cases_lt, lt-ltb, le-ltb}
 use Rattle.std.proofs.lemmas.List.{get_or-set_same, get_or-set_other, get_or_past, length-set}
 use Rattle.std.specs.Int.{bit_at}
@@ -89,6 +90,42 @@ outside row width x len some le =
           ap (λ (n : ℕ). bit_at n (7 - x % 8)) (get_or_past (set row last byte) (x / 8) 0 (omega (arith, length-set row last byte)))
           ∙ bit_at-zero (7 - x % 8)
     ]
+
+-- ---- a pixel of a row made black
+
+is_eq : (a b : ℕ) → eqb a b ≡ true → a ≡ b
+is_eq a b e = grind (arith, nat_tests)
+
+no_eq : (a b : ℕ) → eqb a b ≡ false → a ≡ b → ⊥
+no_eq a b e q = grind (arith, nat_tests)
+
+pub put_black : (row : List ℕ) (x i k : ℕ) → i ≡ x / 8 → i < length row
+    → pixel (set row i (bit_or (get_or row i 0) (1 * 2 ^ (7 - x % 8) % 256))) k ≡ cond (eqb k x) 1 (pixel row k)
+put_black row x i k place within = cases (eqb k x) refl
+  where
+    cases : (b : Bool) → eqb k x ≡ b → pixel (set row i (bit_or (get_or row i 0) (1 * 2 ^ (7 - x % 8) % 256))) k ≡ cond b 1 (pixel row k)
+    cases true e =
+        let same : k ≡ x = is_eq k x e in
+        let here : k / 8 ≡ i = ap (λ (n : ℕ). n / 8) same ∙ sym place in
+        last_byte row i (bit_or (get_or row i 0) (1 * 2 ^ (7 - x % 8) % 256)) k within here
+        ∙ ap (λ (n : ℕ). bit_at (bit_or (get_or row i 0) (1 * 2 ^ (7 - x % 8) % 256)) (7 - n % 8)) same
+        ∙ bit_at_set_same w8 (get_or row i 0) (7 - x % 8) (omega arith)
+    cases false e =
+        let other = no_eq k x e in
+        elim (cases_eq (k / 8) i) [
+          | inl here ↦
+              last_byte row i (bit_or (get_or row i 0) (1 * 2 ^ (7 - x % 8) % 256)) k within here
+              ∙ bit_at_set_other w8 (get_or row i 0) (7 - x % 8) (omega arith) (7 - k % 8) (λ q. other (omega (arith, q, here, place)))
+              ∙ ap (λ (n : ℕ). bit_at (get_or row n 0) (7 - k % 8)) (sym here)
+          | inr apart ↦ same_byte row i (bit_or (get_or row i 0) (1 * 2 ^ (7 - x % 8) % 256)) k apart
+        ]
+      where
+        cases_eq : (a b : ℕ) → (a ≡ b) ⊎ (a ≢ b)
+        cases_eq a b = by_test (eqb a b) refl
+          where
+            by_test : (t : Bool) → eqb a b ≡ t → (a ≡ b) ⊎ (a ≢ b)
+            by_test true q = inl (is_eq a b q)
+            by_test false q = inr (no_eq a b q)
 
 -- a row whose last byte has its padding bits cleared
 pub cleared_row : (row : List ℕ) (width : ℕ) → length row ≡ row_len width → 0 < length row

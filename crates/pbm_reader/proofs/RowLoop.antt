@@ -1,18 +1,24 @@
--- The rows of a page are given one after the other.
-use Rattle.std.proofs.Common.{◌≡◌, ℕ, zero, suc, ◌+◌, ◌-◌, ◌*◌, ◌/◌, ◌%◌, ◌<◌, Bool, cond, eqb, ◌&&◌, List, [], ◌++◌, length, get_or, drop, Option, refl, sym, ap, subst, ◌∙◌, append_assoc, inl, inr, arith}
-use Rattle.std.proofs.Math.Nat.{mul-le-mul_right}
+-- The rows of a raw raster are given one after the other.
+use Rattle.std.proofs.Common.{◌≡◌, ℕ, zero, suc, ◌+◌, ◌-◌, ◌*◌, ◌/◌, ◌%◌, ◌<◌, ◌≤◌, Bool, cond, eqb, ◌&&◌, List, [], ◌++◌, length, get_or, drop, Option, refl, sym, ap, subst, ◌∙◌, append_assoc, inl, inr, arith}
+use Rattle.std.proofs.Math.Nat.{mul-le-mul_right, mul-le-mul_left}
 use Rattle.std.proofs.lemmas.Bool.{cases_lt, lt-ltb, le-ltb}
-use Rattle.std.proofs.lemmas.List.{drop_at, length-append, get_or_append_left}
+use Rattle.std.proofs.lemmas.List.{drop_at, length-append, append-nil, get_or_append_left}
 use Rattle.std.proofs.lemmas.Nat.Bits.{bit_at-lt}
 use Rattle.std.specs.Int.{bit_at}
 use Rattle.pbm_reader.specs.declared.fault.PageFault.{PageFault}
 use Rattle.pbm_reader.specs.declared.fault.PageFault.TheVariants as faults
-use Rattle.pbm_reader.specs.Page.{row_len, pixel, IsPackedRow, IsRowOf}
+use Rattle.pbm_reader.specs.declared.form.Form.TheVariants.{Raw}
+use Rattle.pbm_reader.specs.Page.{row_len, pixel, IsPageSize, IsPackedRow, IsRowOf}
 use Rattle.pbm_reader.specs.Spelling.{raster_page}
 use Rattle.pbm_reader.specs.Given.{AfterRows, Stays}
-use Rattle.pbm_reader.specs.Raster.{IsCleared, BytesFail, GivenRows, GivenTopRows, TakesRow}
+use Rattle.pbm_reader.specs.Raster.{IsCleared, BytesFail, RasterFails, TookRaster, GivenTopRows, TakesRow}
 use Rattle.pbm_reader.specs.Left.{Took}
 use Rattle.pbm_reader.proofs.Taken.{took_more, took_all, prepend_nothing, all_left}
+use Rattle.pbm_reader.proofs.Judged.{raw_begins}
+
+-- the first rows of the page that these bytes begin were given, whatever follows them
+abbrev pub GivenRows : {Sink : Type 0} → (Sink → List ℕ → Sink → Type 0) → ℕ → ℕ → List ℕ → ℕ → Sink → Sink → Type 0
+GivenRows given width height raster y old new = (rest : List ℕ) → AfterRows given (raster_page width height (raster ++ rest)) y old new
 
 -- the first y rows were read and given
 pub record IsGiving {Sink : Type 0} (given : Sink → List ℕ → Sink → Type 0) (old now : Option (List ℕ)) (width height y : ℕ) (start sink : Sink) : Type 0 where
@@ -73,41 +79,84 @@ one_more_row given old middle new width height y start sink next g row = record 
       subst P e (sink, row.cleared, before, cleared_is_row width height y g.part row.bits rest row.cleared g.len row.len row.is_cleared, row.gives);
 }
 
+-- a raster takes few bytes
+raster_bound : (width height start : ℕ) → IsPageSize width height → start ≤ 65536 → start + height * row_len width < 268435456
+raster_bound width height start s short =
+    let row = row_len width in
+    let area = s.area_bound in
+    let high = s.height_bound in
+    let eight : row * 8 ≤ width + 7 = omega arith in
+    let all : height * (row * 8) ≤ height * (width + 7) = mul-le-mul_left height eight in
+    let swap : height * row * 8 ≡ height * (row * 8) = omega arith in
+    let open_up : height * (width + 7) ≡ width * height + height * 7 = omega arith in
+    omega (arith, all, swap, open_up, area, high, short)
+
 -- why a row was not read is why the raster was not read
-pub row_fails : {Sink : Type 0} (given : Sink → List ℕ → Sink → Type 0) (old middle new : Option (List ℕ)) (width height y at : ℕ) (start sink : Sink) (fault : PageFault)
-    → IsGiving given old middle width height y start sink → y < height → BytesFail middle new (at + y * row_len width) (row_len width) fault → BytesFail old new at (height * row_len width) fault
-row_fails given old middle new width height y at start sink (faults.Truncated end) g lt h = (
-  g.part ++ h.0,
-  took_all old middle new g.part h.0 g.took h.1,
-  omega (arith, length-append g.part h.0, g.len, h.2, mul-le-mul_right (row_len width) lt),
-  omega (arith, length-append g.part h.0, g.len, h.3),
-)
-row_fails given old middle new width height y at start sink faults.ReadFault g lt h =
-    (g.part ++ h.0, took_more old middle new g.part h.0 g.took h.1, omega (arith, length-append g.part h.0, g.len, h.2, mul-le-mul_right (row_len width) lt))
-row_fails given old middle new width height y at start sink faults.Memory g lt h = tt
-row_fails given old middle new width height y at start sink (faults.Magic x) g lt h = absurd h
-row_fails given old middle new width height y at start sink (faults.Header x) g lt h = absurd h
-row_fails given old middle new width height y at start sink (faults.Trailing x) g lt h = absurd h
+pub row_fails : {Sink : Type 0} (given : Sink → List ℕ → Sink → Type 0) (old middle new : Option (List ℕ)) (width height y start : ℕ) (before sink : Sink) (fault : PageFault)
+    → IsGiving given old middle width height y before sink → y < height → IsPageSize width height → start ≤ 65536
+    → BytesFail middle new (start + y * row_len width) (row_len width) fault → RasterFails old new Raw width height start fault
+row_fails given old middle new width height y start before sink (faults.Truncated end) g lt size short h =
+    let rows : suc y * row_len width ≤ height * row_len width = mul-le-mul_right (row_len width) lt in
+    let one_more : suc y * row_len width ≡ y * row_len width + row_len width = omega arith in
+    let len = length-append g.part h.0 in (
+      g.part ++ h.0,
+      took_all old middle new g.part h.0 g.took h.1,
+      raw_begins width height (g.part ++ h.0) (omega (arith, len, g.len, h.2, rows, one_more)),
+      omega (arith, len, g.len, h.3),
+      omega (arith, raster_bound width height start size short, g.len, h.2, h.3, rows, one_more),
+    )
+row_fails given old middle new width height y start before sink faults.ReadFault g lt size short h =
+    let rows : suc y * row_len width ≤ height * row_len width = mul-le-mul_right (row_len width) lt in
+    let one_more : suc y * row_len width ≡ y * row_len width + row_len width = omega arith in
+    let len = length-append g.part h.0 in (
+      g.part ++ h.0,
+      took_more old middle new g.part h.0 g.took h.1,
+      raw_begins width height (g.part ++ h.0) (omega (arith, len, g.len, h.2, rows, one_more)),
+      omega (arith, raster_bound width height start size short, len, g.len, h.2, rows, one_more),
+    )
+row_fails given old middle new width height y start before sink faults.Memory g lt size short h = tt
+row_fails given old middle new width height y start before sink (faults.Magic at) g lt size short h = absurd h
+row_fails given old middle new width height y start before sink (faults.Header at) g lt size short h = absurd h
+row_fails given old middle new width height y start before sink faults.HeaderTooLong g lt size short h = absurd h
+row_fails given old middle new width height y start before sink faults.ZeroSize g lt size short h = absurd h
+row_fails given old middle new width height y start before sink (faults.TooLarge wide high) g lt size short h = absurd h
+row_fails given old middle new width height y start before sink (faults.Pixel at) g lt size short h = absurd h
+row_fails given old middle new width height y start before sink (faults.Trailing at) g lt size short h = absurd h
+row_fails given old middle new width height y start before sink faults.InputTooLong g lt size short h = absurd h
 
 -- all rows were given
-pub all_rows : {Sink : Type 0} (given : Sink → List ℕ → Sink → Type 0) (old now : Option (List ℕ)) (width height y : ℕ) (start sink : Sink)
-    → IsGiving given old now width height y start sink → y ≡ height
-    → (raster : List ℕ) × Took old now raster × (length raster ≡ height * row_len width) × GivenRows given width height raster height start sink
-all_rows given old now width height y start sink g e =
-    let P : ℕ → Type 0 = λ n. GivenRows given width height g.part n start sink in
-    (g.part, g.took, g.len ∙ ap (λ (n : ℕ). n * row_len width) e, subst P e g.rows)
+pub all_rows : {Sink : Type 0} (given : Sink → List ℕ → Sink → Type 0) (old now : Option (List ℕ)) (width height y start end : ℕ) (before sink : Sink)
+    → IsGiving given old now width height y before sink → y ≡ height → IsPageSize width height → start ≤ 65536 → end ≡ start + y * row_len width
+    → TookRaster given old now Raw width height start end before sink
+all_rows given old now width height y start end before sink g e size short is =
+    let P : ℕ → Type 0 = λ n. AfterRows given (raster_page width height (g.part ++ [])) n before sink in
+    let Q : List ℕ → Type 0 = λ l. AfterRows given (raster_page width height l) height before sink in
+    let rows : y * row_len width ≡ height * row_len width = ap (λ (n : ℕ). n * row_len width) e in
+    record {
+      raster = g.part;
+      page = raster_page width height g.part;
+      took = g.took;
+      width_is = refl;
+      height_is = refl;
+      rows = (g.len ∙ rows, refl);
+      gives = subst Q (append-nil g.part) (subst P e (g.rows []));
+      end_is = omega (arith, is, g.len);
+      low = omega (arith, raster_bound width height start size short, is, rows);
+    }
 
 -- the rows given before one was refused are top rows
 pub rows_stop : {Sink : Type 0} (given : Sink → List ℕ → Sink → Type 0) (unchanged : Sink → Sink → Type 0) (old now : Option (List ℕ)) (width height y : ℕ) (start sink last : Sink)
-    → IsGiving given old now width height y start sink → Stays unchanged sink last → GivenTopRows given unchanged width height old start last
+    → IsGiving given old now width height y start sink → Stays unchanged sink last → GivenTopRows given unchanged Raw width height old start last
 rows_stop given unchanged old now width height y start sink last g stays =
     let a = all_left old now g.part g.took in
+    let Q : List ℕ → Type 0 = λ l. AfterRows given (raster_page width height l) y start sink in
     record {
-      raster = g.part ++ a.0;
+      behind = g.part ++ a.0;
       all = a.1;
       count = y;
-      whole = omega (arith, length-append g.part a.0, g.len);
+      page = raster_page width height g.part;
+      whole = (g.part, a.0, refl, omega (arith, g.len), refl);
       top = sink;
-      rows = g.rows a.0;
+      rows = subst Q (append-nil g.part) (g.rows []);
       stays = stays;
     }

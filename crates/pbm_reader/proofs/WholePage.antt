@@ -1,182 +1,305 @@
 -- A page is read exactly where the input spells one, and each refusal is the fault of the input.
-use Rattle.std.proofs.Common.{◌≡◌, ℕ, ◌+◌, ◌*◌, ◌⊎◌, ◌<◌, List, [], ◌∷◌, ◌++◌, length, Option, Some, None, Result, Ok, Err, refl, sym, ap, subst, ◌∙◌, append_assoc, inl, inr, arith}
+use Rattle.std.proofs.Common.{◌≡◌, ℕ, ◌+◌, ◌*◌, ◌⊎◌, ◌<◌, ◌≤◌, List, [], ◌∷◌, ◌++◌, length, Option, Some, None, Result, Ok, Err, refl, sym, ap, subst, ◌∙◌, append_assoc, append-nil, inl, inr, arith}
 use Rattle.std.specs.Prelude.{IfSome, IfOk, IfErr, IsErr, IsOkUnless}
-use Rattle.std.proofs.lemmas.List.{length-append, append-nil, take_at}
+use Rattle.std.proofs.lemmas.List.{length-append}
 use Rattle.layout_outside.specs.Causes.{Rose}
-use Rattle.pbm_reader.specs.declared.state.HeaderState.TheVariants.{Magic}
 use Rattle.pbm_reader.specs.declared.header.Header.{Header}
 use Rattle.pbm_reader.specs.declared.fault.Size.{Size}
 use Rattle.pbm_reader.specs.declared.fault.PageFault.{PageFault}
 use Rattle.pbm_reader.specs.declared.fault.PageFault.TheVariants as faults
-use Rattle.pbm_reader.specs.Page.{Page, row_len}
-use Rattle.pbm_reader.specs.Spelling.{IsHeader, IsPage, raster_page, Spells}
-use Rattle.pbm_reader.specs.Fault.{HasFault, IsTruncated, IsTrailing}
-use Rattle.pbm_reader.specs.Header.{header_at}
-use Rattle.pbm_reader.specs.Given.{AfterRows, AfterFault}
-use Rattle.pbm_reader.specs.Raster.{BytesFail, GivenRows, GivenTopRows}
-use Rattle.pbm_reader.specs.Left.{left_of, Took, TookAll}
+use Rattle.pbm_reader.specs.declared.form.Form.{Form}
+use Rattle.pbm_reader.specs.declared.form.Form.TheVariants.{Plain, Raw}
+use Rattle.pbm_reader.specs.Page.{Page, IsPageSize, row_len}
+use Rattle.pbm_reader.specs.Spelling.{IsHeader, IsRaster, MayFollow, SpellsRows, IsPage, pixels_page, raster_page, Spells}
+use Rattle.pbm_reader.specs.Fault.{IsFrontOf, HasPageHeader, HasFault, IsTruncated, IsPixelFault, IsTrailing, IsInputTooLong}
+use Rattle.pbm_reader.specs.Given.{AfterRows, AfterFault, HasTopRows}
+use Rattle.pbm_reader.specs.Raster.{RasterFails, TookRaster, GivenTopRows}
+use Rattle.pbm_reader.specs.Tail.{TailFails, TookTail}
+use Rattle.pbm_reader.specs.Left.{left_of, Took, TookAll, TookHeader}
 use Rattle.pbm_reader.specs.Reading.{HasReadCause, ReadsPage, Refuses}
 use Rattle.pbm_reader.proofs.Taken.{took_more, took_all, prepend_nothing, of_all, of_end, all_left}
-use Rattle.pbm_reader.proofs.HeaderLaws.{sound}
-use Rattle.pbm_reader.proofs.OneFault.{one_fault}
-use Rattle.pbm_reader.proofs.PageLaws.{header_magic, spells_page, part_begins, page_has_no_fault, page_undecided}
+use Rattle.pbm_reader.proofs.Faults.{raster_ends}
+use Rattle.pbm_reader.proofs.Judged.{one_fault, page_has_no_fault, page_undecided, cut_undecided, long_fault}
 
--- the header was taken, whatever follows it
-pub record HeaderTaken (old now : Option (List ℕ)) (header : Header) : Type 0 where
-  pub taken : List ℕ
-  pub took : Took old now taken
-  pub reads : (rest : List ℕ) → header_at 0 Magic (taken ++ rest) ≡ Ok (header, rest)
+-- ---- refusals in the raster
 
-record IsTaken (header : Header) (taken : List ℕ) : Type 0 where
-  pub is_header : IsHeader taken header.size.width header.size.height
-  pub len : header.len ≡ length taken
+has_header : (header behind : List ℕ) (form : Form) (width height : ℕ) → IsHeader header form width height → IsPageSize width height → length header ≤ 65536
+    → HasPageHeader (header ++ behind) header behind form width height
+has_header header behind form width height h size short = record { has_header = record { whole = refl; is_header = h; short = short }; size = size }
 
-is_taken : (header : Header) (taken : List ℕ) → ((rest : List ℕ) → header_at 0 Magic (taken ++ rest) ≡ Ok (header, rest)) → IsTaken header taken
-is_taken header taken reads =
-    let s = sound (taken ++ []) (header, []) (reads []) in
-    let e : s.header ≡ taken = sym (append-nil s.header) ∙ sym s.whole ∙ append-nil taken in
-    let P : List ℕ → Type 0 = λ l. IsHeader l header.size.width header.size.height in
-    record { is_header = subst P e s.is_header; len = s.len ∙ ap length e }
+-- a header and a part of its raster end too early
+cut : (header : Header) (bytes part : List ℕ) (at : ℕ) → IsHeader bytes header.form header.size.width header.size.height → IsPageSize header.size.width header.size.height → length bytes ≤ 65536
+    → IsFrontOf (IsRaster header.form header.size.width header.size.height) part → at ≡ length bytes + length part → at ≤ 268435456 → IsTruncated (bytes ++ part) at
+cut header bytes part at h size short begins is low =
+    let form = header.form in
+    let width = header.size.width in
+    let height = header.size.height in
+    raster_ends bytes part form width height at (has_header bytes part form width height h size short) begins is low
 
--- ---- refusals
+pixel_fault : (header : Header) (bytes part rest : List ℕ) (byte at : ℕ) → IsHeader bytes header.form header.size.width header.size.height → IsPageSize header.size.width header.size.height
+    → length bytes ≤ 65536 → header.form ≡ Plain → IsFrontOf (IsRaster header.form header.size.width header.size.height) part
+    → ((rest : List ℕ) → IsRaster header.form header.size.width header.size.height (part ++ byte ∷ rest) → ⊥) → at ≡ length bytes + length part → at < 268435456
+    → IsPixelFault ((bytes ++ (part ++ byte ∷ [])) ++ rest) at
+pixel_fault header bytes part rest byte at h size short plain begins wrong is low =
+    let width = header.size.width in
+    let height = header.size.height in
+    let behind = part ++ byte ∷ rest in
+    let all : (bytes ++ (part ++ byte ∷ [])) ++ rest ≡ bytes ++ behind =
+    append_assoc bytes (part ++ byte ∷ []) rest ∙ ap (λ (l : List ℕ). bytes ++ l) (append_assoc part (byte ∷ []) rest) in
+    let H : Form → Type 0 = λ f. IsHeader bytes f width height in
+    let B : Form → Type 0 = λ f. IsFrontOf (IsRaster f width height) part in
+    let W : Form → Type 0 = λ f. (rest : List ℕ) → IsRaster f width height (part ++ byte ∷ rest) → ⊥ in
+    let P : List ℕ → Type 0 = λ l. IsPixelFault l at in
+    subst P (sym all) (record {
+      width = width;
+      height = height;
+      header = bytes;
+      behind = behind;
+      has_header = has_header bytes behind Plain width height (subst H plain h) size short;
+      place = length part;
+      stops = record { front = part; byte = byte; more = rest; whole = refl; place = refl; begins = subst B plain begins; wrong = subst W plain wrong };
+      place_is = is;
+      low = low;
+    })
 
-pub truncated : (header part : List ℕ) (width height at : ℕ) → IsHeader header width height → length part < height * row_len width → at ≡ length header + length part
-    → IsTruncated (header ++ part) at
-truncated header part width height at h lt is =
-    let b = part_begins header part width height h (omega arith) in
-    record {
-      magic = header_magic header part width height h;
-      end = is ∙ sym (length-append header part);
-      front = record { rest = b.0; page = b.2.0; some = omega (arith, b.1, lt); spells = b.2.1 };
-    }
+-- a byte behind 268,435,456 bytes that spell a page or end too early
+long : (old new : Option (List ℕ)) (front behind taken : List ℕ) → Took old new taken → taken ≡ front ++ behind → length front ≡ 268435456 → 0 < length behind
+    → IsPage front ⊎ ((at : ℕ) × IsTruncated front at) → IfSome old (λ input. IsInputTooLong input)
+long old new front behind taken took split len more part =
+    of_all (λ input. IsInputTooLong input) old new taken took
+    (λ rest.
+      let all : taken ++ rest ≡ front ++ (behind ++ rest) = ap (λ (l : List ℕ). l ++ rest) split ∙ append_assoc front behind rest in
+      let P : List ℕ → Type 0 = λ l. IsInputTooLong l in
+      subst P (sym all) (long_fault front (behind ++ rest) len (omega (arith, more, length-append behind rest)) part))
 
-pub raster_refuses : (old middle new : Option (List ℕ)) (header : Header) (fault : PageFault) → HeaderTaken old middle header
-    → BytesFail middle new header.len (header.size.height * row_len header.size.width) fault → Refuses old new fault
+pub raster_refuses : (old middle new : Option (List ℕ)) (header : Header) (fault : PageFault) → TookHeader old middle header
+    → RasterFails middle new header.form header.size.width header.size.height header.len fault → Refuses old new fault
 raster_refuses old middle new header (faults.Truncated at) t f =
-    let i = is_taken header t.taken t.reads in
-    of_end (λ input. IsTruncated input at) old new (t.taken ++ f.0) (took_all old middle new t.taken f.0 t.took f.1)
-    (truncated t.taken f.0 header.size.width header.size.height at i.is_header f.2 (omega (arith, f.3, i.len)))
+    of_end (λ input. IsTruncated input at) old new (t.bytes ++ f.0) (took_all old middle new t.bytes f.0 t.took f.1)
+    (cut header t.bytes f.0 at t.is_header t.size t.short f.2 (omega (arith, f.3, t.len)) f.4)
+raster_refuses old middle new header (faults.Pixel at) t f =
+    of_all (λ input. IsPixelFault input at) old new (t.bytes ++ (f.0 ++ f.1 ∷ [])) (took_more old middle new t.bytes (f.0 ++ f.1 ∷ []) t.took f.2)
+    (λ rest. pixel_fault header t.bytes f.0 rest f.1 at t.is_header t.size t.short f.3 f.4 f.5 (omega (arith, f.6, t.len)) f.7)
+raster_refuses old middle new header faults.InputTooLong t f =
+    let total : length (t.bytes ++ f.0) ≡ 268435456 = omega (arith, length-append t.bytes f.0, f.4, t.len) in
+    long old new (t.bytes ++ f.0) (f.1 ∷ []) (t.bytes ++ (f.0 ++ f.1 ∷ [])) (took_more old middle new t.bytes (f.0 ++ f.1 ∷ []) t.took f.2)
+    (sym (append_assoc t.bytes f.0 (f.1 ∷ []))) total (omega arith)
+    (inr (268435456, cut header t.bytes f.0 268435456 t.is_header t.size t.short f.3 (omega (arith, f.4, t.len)) (omega arith)))
 raster_refuses old middle new header faults.ReadFault t f =
-    let i = is_taken header t.taken t.reads in
-    let b = part_begins t.taken f.0 header.size.width header.size.height i.is_header (omega (arith, f.2)) in
-    (t.taken ++ f.0, took_more old middle new t.taken f.0 t.took f.1, page_undecided (t.taken ++ f.0) b.0 b.2)
+    let low = f.3 in
+    (t.bytes ++ f.0, took_more old middle new t.bytes f.0 t.took f.1,
+      cut_undecided (t.bytes ++ f.0) (length t.bytes + length f.0) (cut header t.bytes f.0 (length t.bytes + length f.0) t.is_header t.size t.short f.2 refl (omega (arith, low, t.len))))
 raster_refuses old middle new header faults.Memory t f = tt
 raster_refuses old middle new header (faults.Magic at) t f = absurd f
 raster_refuses old middle new header (faults.Header at) t f = absurd f
+raster_refuses old middle new header faults.HeaderTooLong t f = absurd f
+raster_refuses old middle new header faults.ZeroSize t f = absurd f
+raster_refuses old middle new header (faults.TooLarge wide high) t f = absurd f
 raster_refuses old middle new header (faults.Trailing at) t f = absurd f
 
--- the raster was taken behind the header
-pub record RasterTaken (old now : Option (List ℕ)) (header : Header) : Type 0 where
-  pub raster : List ℕ
-  pub took : Took old now raster
-  pub len : length raster ≡ header.size.height * row_len header.size.width
+-- ---- refusals behind the raster
 
-whole_spells : (header : Header) (taken raster : List ℕ) → IsTaken header taken → length raster ≡ header.size.height * row_len header.size.width
-    → Spells (taken ++ raster) (raster_page header.size.width header.size.height raster)
-whole_spells header taken raster i len = spells_page taken raster header.size.width header.size.height i.is_header len
+-- a header, its raster and what may follow spell the page that was given
+spells : {Sink : Type 0} (given : Sink → List ℕ → Sink → Type 0) (old middle later : Option (List ℕ)) (header : Header) (end : ℕ) (empty after : Sink) (tail : List ℕ)
+    → (t : TookHeader old middle header) → (r : TookRaster given middle later header.form header.size.width header.size.height header.len end empty after)
+    → MayFollow header.form tail → end + length tail ≤ 268435456 → Spells (t.bytes ++ (r.raster ++ tail)) r.page
+spells given old middle later header end empty after tail t r follows low =
+    let H : ℕ → Type 0 = λ n. IsHeader t.bytes header.form n header.size.height in
+    let I : ℕ → Type 0 = λ n. IsHeader t.bytes header.form r.page.width n in
+    let S : ℕ → Type 0 = λ n. IsPageSize n header.size.height in
+    let U : ℕ → Type 0 = λ n. IsPageSize r.page.width n in
+    let wide = sym r.width_is in
+    let high = sym r.height_is in
+    record {
+      form = header.form;
+      header = t.bytes;
+      raster = r.raster;
+      tail = tail;
+      has_header = record { whole = refl; is_header = subst I high (subst H wide t.is_header); short = t.short };
+      size = subst U high (subst S wide t.size);
+      rows = r.rows;
+      follows = follows;
+      short = omega (arith, low, r.end_is, t.len, length-append t.bytes (r.raster ++ tail), length-append r.raster tail);
+    }
 
--- a read that fails behind the raster decides nothing, since the bytes taken spell a page
-pub end_refuses : (old middle new : Option (List ℕ)) (header : Header) → HeaderTaken old middle header → RasterTaken middle new header → Refuses old new faults.ReadFault
-end_refuses old middle new header t r =
-    let i = is_taken header t.taken t.reads in
-    let page = raster_page header.size.width header.size.height r.raster in
-    let P : List ℕ → Type 0 = λ l. Spells l page in (
-      t.taken ++ r.raster,
-      took_more old middle new t.taken r.raster t.took r.took,
-      page_undecided (t.taken ++ r.raster) [] (page, subst P (sym (append-nil (t.taken ++ r.raster))) (whole_spells header t.taken r.raster i r.len)),
-    )
+-- the rows that spell a page make up a raster
+rows_raster : (form : Form) (page : Page) (raster : List ℕ) → SpellsRows form page raster → IsRaster form page.width page.height raster
+rows_raster Plain page raster rows = (rows.0, rows.1, rows.2)
+rows_raster Raw page raster rows = rows.0
 
-trailing : (bytes rest : List ℕ) (byte at : ℕ) (page : Page) → Spells bytes page → at ≡ length bytes → IsTrailing ((bytes ++ byte ∷ []) ++ rest) at
-trailing bytes rest byte at page p is =
-    let e : (bytes ++ byte ∷ []) ++ rest ≡ bytes ++ byte ∷ rest = append_assoc bytes (byte ∷ []) rest in
-    let Q : List ℕ → Type 0 = λ l. IsTrailing l at in
-    let P : List ℕ → Type 0 = λ l. IsPage l in
-    subst Q (sym e) (record { within = omega (arith, is, length-append bytes (byte ∷ rest)); page = subst P (sym (take_at bytes (byte ∷ rest) at (sym is))) (page, p) })
+trailing : {Sink : Type 0} (given : Sink → List ℕ → Sink → Type 0) (old middle later : Option (List ℕ)) (header : Header) (end : ℕ) (empty after : Sink) (byte : ℕ) (rest : List ℕ)
+    → (t : TookHeader old middle header) → (r : TookRaster given middle later header.form header.size.width header.size.height header.len end empty after)
+    → (MayFollow header.form (byte ∷ []) → ⊥) → end < 268435456 → IsTrailing ((t.bytes ++ (r.raster ++ byte ∷ [])) ++ rest) end
+trailing given old middle later header end empty after byte rest t r refused low =
+    let form = header.form in
+    let width = header.size.width in
+    let height = header.size.height in
+    let behind = r.raster ++ byte ∷ rest in
+    let all : (t.bytes ++ (r.raster ++ byte ∷ [])) ++ rest ≡ t.bytes ++ behind =
+    append_assoc t.bytes (r.raster ++ byte ∷ []) rest ∙ ap (λ (l : List ℕ). t.bytes ++ l) (append_assoc r.raster (byte ∷ []) rest) in
+    let R : ℕ → Type 0 = λ n. IsRaster form n r.page.height r.raster in
+    let Q : ℕ → Type 0 = λ n. IsRaster form width n r.raster in
+    let P : List ℕ → Type 0 = λ l. IsTrailing l end in
+    subst P (sym all) (record {
+      form = form;
+      width = width;
+      height = height;
+      header = t.bytes;
+      raster = r.raster;
+      byte = byte;
+      more = rest;
+      has_header = has_header t.bytes behind form width height t.is_header t.size t.short;
+      is_raster = subst Q r.height_is (subst R r.width_is (rows_raster form r.page r.raster r.rows));
+      refused = refused;
+      place_is = omega (arith, r.end_is, t.len);
+      low = low;
+    })
 
-pub trailing_refuses : (old middle later new : Option (List ℕ)) (header : Header) (byte end : ℕ) → HeaderTaken old middle header → RasterTaken middle later header
-    → end ≡ header.len + header.size.height * row_len header.size.width → Took later new (byte ∷ []) → IfSome old (λ input. IsTrailing input end)
-trailing_refuses old middle later new header byte end t r is more =
-    let i = is_taken header t.taken t.reads in
-    let bytes = t.taken ++ r.raster in
-    of_all (λ input. IsTrailing input end) old new (bytes ++ byte ∷ [])
-    (took_more old later new bytes (byte ∷ []) (took_more old middle later t.taken r.raster t.took r.took) more)
-    (λ rest. trailing bytes rest byte end (raster_page header.size.width header.size.height r.raster) (whole_spells header t.taken r.raster i r.len) (omega (arith, is, i.len, r.len, length-append t.taken r.raster)))
+-- what was taken up to a tail
+took_three : (old middle later new : Option (List ℕ)) (a b c : List ℕ) → Took old middle a → Took middle later b → Took later new c → Took old new (a ++ (b ++ c))
+took_three old middle later new a b c p q r = took_more old middle new a (b ++ c) p (took_more middle later new b c q r)
+
+pub tail_refuses : {Sink : Type 0} (given : Sink → List ℕ → Sink → Type 0) (old middle later new : Option (List ℕ)) (header : Header) (end : ℕ) (empty after : Sink) (fault : PageFault)
+    → TookHeader old middle header → TookRaster given middle later header.form header.size.width header.size.height header.len end empty after
+    → TailFails later new header.form end fault → Refuses old new fault
+tail_refuses given old middle later new header end empty after (faults.Trailing at) t r f =
+    let P : ℕ → Type 0 = λ n. IfSome old (λ input. IsTrailing input n) in
+    let low = f.4 in
+    subst P (sym f.3)
+    (of_all (λ input. IsTrailing input end) old new (t.bytes ++ (r.raster ++ f.0 ∷ [])) (took_three old middle later new t.bytes r.raster (f.0 ∷ []) t.took r.took f.1)
+      (λ rest. trailing given old middle later header end empty after f.0 rest t r f.2 (omega (arith, f.3, low))))
+tail_refuses given old middle later new header end empty after faults.InputTooLong t r f =
+    let past = f.2 in
+    let front = t.bytes ++ (r.raster ++ past.0) in
+    let split : t.bytes ++ (r.raster ++ f.0) ≡ front ++ past.1 =
+    ap (λ (l : List ℕ). t.bytes ++ (r.raster ++ l)) past.2 ∙ ap (λ (l : List ℕ). t.bytes ++ l) (sym (append_assoc r.raster past.0 past.1)) ∙ sym (append_assoc t.bytes (r.raster ++ past.0) past.1) in
+    let total : length front ≡ 268435456 = omega (arith, length-append t.bytes (r.raster ++ past.0), length-append r.raster past.0, past.4, r.end_is, t.len) in
+    long old new front past.1 (t.bytes ++ (r.raster ++ f.0)) (took_three old middle later new t.bytes r.raster f.0 t.took r.took f.1) split total past.5
+    (inl (r.page, spells given old middle later header end empty after past.0 t r past.3 (omega (arith, past.4))))
+tail_refuses given old middle later new header end empty after faults.ReadFault t r f =
+    (t.bytes ++ (r.raster ++ f.0), took_three old middle later new t.bytes r.raster f.0 t.took r.took f.1,
+      page_undecided (t.bytes ++ (r.raster ++ f.0)) (r.page, spells given old middle later header end empty after f.0 t r f.2 f.3))
+tail_refuses given old middle later new header end empty after (faults.Magic at) t r f = absurd f
+tail_refuses given old middle later new header end empty after (faults.Header at) t r f = absurd f
+tail_refuses given old middle later new header end empty after faults.HeaderTooLong t r f = absurd f
+tail_refuses given old middle later new header end empty after faults.ZeroSize t r f = absurd f
+tail_refuses given old middle later new header end empty after (faults.TooLarge wide high) t r f = absurd f
+tail_refuses given old middle later new header end empty after (faults.Truncated at) t r f = absurd f
+tail_refuses given old middle later new header end empty after (faults.Pixel at) t r f = absurd f
+tail_refuses given old middle later new header end empty after faults.Memory t r f = absurd f
 
 -- ---- the sink after a fault
 
 -- top rows of the raster are top rows of the page
 pub top_rows : {Sink : Type 0} (begun : Sink → ℕ → ℕ → Sink → Type 0) (given : Sink → List ℕ → Sink → Type 0) (unchanged : Sink → Sink → Type 0)
-    (old middle : Option (List ℕ)) (header : Header) (before empty after : Sink) → HeaderTaken old middle header → begun before header.size.width header.size.height empty
-    → GivenTopRows given unchanged header.size.width header.size.height middle empty after → AfterFault begun given unchanged old before after
+    (old middle : Option (List ℕ)) (header : Header) (before empty after : Sink) → TookHeader old middle header → begun before header.size.width header.size.height empty
+    → GivenTopRows given unchanged header.form header.size.width header.size.height middle empty after → AfterFault begun given unchanged old before after
 top_rows begun given unchanged old middle header before empty after t b g =
-    let i = is_taken header t.taken t.reads in
     inr (record {
+      form = header.form;
       width = header.size.width;
       height = header.size.height;
-      header = t.taken;
-      raster = g.raster;
-      input = behind old middle t.taken g.raster t.took g.all;
-      is_header = i.is_header;
+      header = t.bytes;
+      behind = g.behind;
+      input = all_behind old middle t.bytes g.behind t.took g.all;
+      is_header = t.is_header;
       empty = empty;
       begins = b;
       count = g.count;
+      page = g.page;
       whole = g.whole;
       top = g.top;
       rows = g.rows;
       stays = g.stays;
     })
   where
-    behind : (old middle : Option (List ℕ)) (taken raster : List ℕ) → Took old middle taken → IfSome middle (λ bytes. bytes ≡ raster) → IfSome old (λ input. input ≡ taken ++ raster)
-    behind None middle taken raster took all = tt
-    behind (Some input) None taken raster took all = absurd cc
-    behind (Some input) (Some bytes) taken raster took all = some_is input (taken ++ bytes) took ∙ ap (λ (l : List ℕ). taken ++ l) all
+    all_behind : (old middle : Option (List ℕ)) (taken behind : List ℕ) → Took old middle taken → IfSome middle (λ bytes. bytes ≡ behind) → IfSome old (λ input. input ≡ taken ++ behind)
+    all_behind None middle taken behind took all = tt
+    all_behind (Some input) None taken behind took all = absurd cc
+    all_behind (Some input) (Some bytes) taken behind took all = some_is input (taken ++ bytes) took ∙ ap (λ (l : List ℕ). taken ++ l) all
       where
         some_is : (a b : List ℕ) → (let o : Option (List ℕ) = Some a in o) ≡ Some b → a ≡ b
         some_is a b e = cc
 
+all_top : (form : Form) (page : Page) (width height : ℕ) (raster rest : List ℕ) → page.width ≡ width → page.height ≡ height → SpellsRows form page raster
+    → HasTopRows form width height (raster ++ rest) height page
+all_top Plain page width height raster rest wide high rows =
+    let same : height * width ≡ page.height * page.width = sym (ap (λ (n : ℕ). n * page.width) high ∙ ap (λ (n : ℕ). height * n) wide) in
+    (rows.0, raster, rest, refl, rows.2, omega (arith, rows.1, same),
+      rows.3 ∙ ap (λ (n : ℕ). pixels_page n page.height rows.0) wide ∙ ap (λ (n : ℕ). pixels_page width n rows.0) high)
+all_top Raw page width height raster rest wide high rows =
+    let same : height * row_len width ≡ page.height * row_len page.width = sym (ap (λ (n : ℕ). n * row_len page.width) high ∙ ap (λ (n : ℕ). height * row_len n) wide) in
+    (raster, rest, refl, omega (arith, rows.0, same), rows.1 ∙ ap (λ (n : ℕ). raster_page n page.height raster) wide ∙ ap (λ (n : ℕ). raster_page width n raster) high)
+
 -- all rows were given, and then the page was refused
-pub all_rows_given : {Sink : Type 0} (given : Sink → List ℕ → Sink → Type 0) (unchanged : Sink → Sink → Type 0) (old now : Option (List ℕ)) (header : Header) (empty after : Sink)
-    → (r : RasterTaken old now header) → GivenRows given header.size.width header.size.height r.raster header.size.height empty after
-    → GivenTopRows given unchanged header.size.width header.size.height old empty after
-all_rows_given given unchanged old now header empty after r rows =
+pub all_rows_given : {Sink : Type 0} (given : Sink → List ℕ → Sink → Type 0) (unchanged : Sink → Sink → Type 0) (old now : Option (List ℕ)) (header : Header) (end : ℕ) (empty after : Sink)
+    → TookRaster given old now header.form header.size.width header.size.height header.len end empty after
+    → GivenTopRows given unchanged header.form header.size.width header.size.height old empty after
+all_rows_given given unchanged old now header end empty after r =
     let a = all_left old now r.raster r.took in
     record {
-      raster = r.raster ++ a.0;
+      behind = r.raster ++ a.0;
       all = a.1;
       count = header.size.height;
-      whole = omega (arith, length-append r.raster a.0, r.len);
+      page = r.page;
+      whole = all_top header.form r.page header.size.width header.size.height r.raster a.0 r.width_is r.height_is r.rows;
       top = after;
-      rows = rows a.0;
+      rows = r.gives;
       stays = inl refl;
     }
 
 -- ---- a page
 
 pub page_read : {Sink : Type 0} (begun : Sink → ℕ → ℕ → Sink → Type 0) (given : Sink → List ℕ → Sink → Type 0)
-    (old middle later new : Option (List ℕ)) (header : Header) (before empty after : Sink)
-    → HeaderTaken old middle header → begun before header.size.width header.size.height empty
-    → (r : RasterTaken middle later header) → GivenRows given header.size.width header.size.height r.raster header.size.height empty after
-    → TookAll later new [] → ReadsPage begun given old new before after header.size
-page_read {Sink} begun given old middle later new header before empty after t b r rows end =
-    let width = header.size.width in
-    let height = header.size.height in
-    let all : r.raster ++ [] ≡ r.raster = append-nil r.raster in
-    let P : List ℕ → Type 0 = λ l. TookAll old new (t.taken ++ l) in
-    let Q : List ℕ → Type 0 = λ l. AfterRows given (raster_page width height l) height empty after in
+    (old middle later new : Option (List ℕ)) (header : Header) (end : ℕ) (before empty after : Sink)
+    → TookHeader old middle header → begun before header.size.width header.size.height empty
+    → TookRaster given middle later header.form header.size.width header.size.height header.len end empty after
+    → TookTail later new header.form end → ReadsPage begun given old new before after header.size
+page_read begun given old middle later new header end before empty after t b r q =
+    let B : ℕ → Type 0 = λ n. begun before n header.size.height empty in
+    let C : ℕ → Type 0 = λ n. begun before r.page.width n empty in
+    let R : ℕ → Type 0 = λ n. AfterRows given r.page n empty after in
     record {
-      input = t.taken ++ r.raster;
-      page = raster_page width height r.raster;
-      took = subst P all (took_all old middle new t.taken (r.raster ++ []) t.took (took_all middle later new r.raster [] r.took end));
-      spells = whole_spells header t.taken r.raster (is_taken header t.taken t.reads) r.len;
-      width_is = refl;
-      height_is = refl;
-      sink = record { empty = empty; begins = b; rows = subst Q all (rows []) };
+      input = t.bytes ++ (r.raster ++ q.tail);
+      page = r.page;
+      took = took_all old middle new t.bytes (r.raster ++ q.tail) t.took (took_all middle later new r.raster q.tail r.took q.took);
+      spells = spells given old middle later header end empty after q.tail t r q.follows q.low;
+      width_is = r.width_is;
+      height_is = r.height_is;
+      sink = record { empty = empty; begins = subst C (sym r.height_is) (subst B (sym r.width_is) b); rows = subst R (sym r.height_is) r.gives };
     }
 
 -- ---- a feed that begins empty
 
 pub from_empty : (old : Option (List ℕ)) (first : List ℕ) → first ≡ [] → left_of old first ≡ old
 from_empty old first e = ap (λ (l : List ℕ). left_of old l) e ∙ sym (prepend_nothing old)
+
+-- where the end was met nothing was left in the feed
+unfed : (old source : Option (List ℕ)) (unread bytes : List ℕ) → TookAll old (left_of source unread) bytes → TookAll old source bytes
+unfed old None unread bytes t = record { took = t.took; end = tt }
+unfed old (Some ys) unread bytes t =
+    let none : ys ≡ [] = nothing unread ys t.end in
+    record { took = t.took ∙ ap (λ (l : List ℕ). Some (bytes ++ l)) (t.end ∙ sym none); end = none }
+  where
+    nothing : (xs ys : List ℕ) → xs ++ ys ≡ [] → ys ≡ []
+    nothing [] ys e = e
+    nothing (x ∷ xs) ys e = absurd (omega (arith, ap length e))
+
+pub page_from : {Sink : Type 0} (begun : Sink → ℕ → ℕ → Sink → Type 0) (given : Sink → List ℕ → Sink → Type 0) (old source : Option (List ℕ)) (first unread : List ℕ)
+    (before after : Sink) (result : Result Size PageFault) → first ≡ [] → IfOk result (ReadsPage begun given (left_of old first) (left_of source unread) before after)
+    → IfOk result (ReadsPage begun given old source before after)
+page_from begun given old source first unread before after (Ok size) e r =
+    let P : Option (List ℕ) → Type 0 = λ k. TookAll k source r.input in
+    record {
+      input = r.input;
+      page = r.page;
+      took = subst P (from_empty old first e) (unfed (left_of old first) source unread r.input r.took);
+      spells = r.spells;
+      width_is = r.width_is;
+      height_is = r.height_is;
+      sink = r.sink;
+    }
+page_from begun given old source first unread before after (Err fault) e r = tt
 
 -- ---- what spells a page is read
 
@@ -193,8 +316,13 @@ only_memory old new before now (Err faults.Memory) input refuses cause told p ca
 only_memory old new before now (Err faults.ReadFault) input refuses cause told p calm = absurd (calm (cause.failed refl))
 only_memory old new before now (Err (faults.Magic at)) input refuses cause told p calm = absurd (known_fault old input p.0 (faults.Magic at) told p.1 refuses)
 only_memory old new before now (Err (faults.Header at)) input refuses cause told p calm = absurd (known_fault old input p.0 (faults.Header at) told p.1 refuses)
+only_memory old new before now (Err faults.HeaderTooLong) input refuses cause told p calm = absurd (known_fault old input p.0 faults.HeaderTooLong told p.1 refuses)
+only_memory old new before now (Err faults.ZeroSize) input refuses cause told p calm = absurd (known_fault old input p.0 faults.ZeroSize told p.1 refuses)
+only_memory old new before now (Err (faults.TooLarge wide high)) input refuses cause told p calm = absurd (known_fault old input p.0 (faults.TooLarge wide high) told p.1 refuses)
 only_memory old new before now (Err (faults.Truncated at)) input refuses cause told p calm = absurd (known_fault old input p.0 (faults.Truncated at) told p.1 refuses)
+only_memory old new before now (Err (faults.Pixel at)) input refuses cause told p calm = absurd (known_fault old input p.0 (faults.Pixel at) told p.1 refuses)
 only_memory old new before now (Err (faults.Trailing at)) input refuses cause told p calm = absurd (known_fault old input p.0 (faults.Trailing at) told p.1 refuses)
+only_memory old new before now (Err faults.InputTooLong) input refuses cause told p calm = absurd (known_fault old input p.0 faults.InputTooLong told p.1 refuses)
 
 known_all : (old new : Option (List ℕ)) (input taken : List ℕ) → old ≡ Some input → TookAll old new taken → taken ≡ input
 known_all old None input taken told t = absurd (never old input told t.took)
@@ -225,5 +353,11 @@ only_fault begun given old new start sink before now (Err faults.Memory) input f
 only_fault begun given old new start sink before now (Err faults.ReadFault) input fault reads refuses cause told f calm = absurd (calm (cause.failed refl))
 only_fault begun given old new start sink before now (Err (faults.Magic at)) input fault reads refuses cause told f calm = (refl, inl (same_fault old input (faults.Magic at) fault told refuses f))
 only_fault begun given old new start sink before now (Err (faults.Header at)) input fault reads refuses cause told f calm = (refl, inl (same_fault old input (faults.Header at) fault told refuses f))
+only_fault begun given old new start sink before now (Err faults.HeaderTooLong) input fault reads refuses cause told f calm = (refl, inl (same_fault old input faults.HeaderTooLong fault told refuses f))
+only_fault begun given old new start sink before now (Err faults.ZeroSize) input fault reads refuses cause told f calm = (refl, inl (same_fault old input faults.ZeroSize fault told refuses f))
+only_fault begun given old new start sink before now (Err (faults.TooLarge wide high)) input fault reads refuses cause told f calm =
+    (refl, inl (same_fault old input (faults.TooLarge wide high) fault told refuses f))
 only_fault begun given old new start sink before now (Err (faults.Truncated at)) input fault reads refuses cause told f calm = (refl, inl (same_fault old input (faults.Truncated at) fault told refuses f))
+only_fault begun given old new start sink before now (Err (faults.Pixel at)) input fault reads refuses cause told f calm = (refl, inl (same_fault old input (faults.Pixel at) fault told refuses f))
 only_fault begun given old new start sink before now (Err (faults.Trailing at)) input fault reads refuses cause told f calm = (refl, inl (same_fault old input (faults.Trailing at) fault told refuses f))
+only_fault begun given old new start sink before now (Err faults.InputTooLong) input fault reads refuses cause told f calm = (refl, inl (same_fault old input faults.InputTooLong fault told refuses f))

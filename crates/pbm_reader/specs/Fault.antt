@@ -1,9 +1,11 @@
 -- What is wrong with bytes that spell no page. The whole list is judged, by the grammar alone.
-use Rattle.std.specs.Prelude.{◌≡◌, ◌<◌, ◌⊎◌, ℕ, ◌+◌, List, ◌++◌, length, take, codes}
+use Rattle.std.specs.Prelude.{◌≡◌, ◌<◌, ◌≤◌, ◌⊎◌, ℕ, ◌+◌, min, List, [], ◌∷◌, ◌++◌, length, codes}
 use Rattle.pbm_reader.specs.declared.fault.PageFault.{PageFault}
 use Rattle.pbm_reader.specs.declared.fault.PageFault.TheVariants as faults
-use Rattle.pbm_reader.specs.Page.{Page}
-use Rattle.pbm_reader.specs.Spelling.{IsHeader, Spells, IsPage}
+use Rattle.pbm_reader.specs.declared.form.Form.{Form}
+use Rattle.pbm_reader.specs.declared.form.Form.TheVariants.{Plain}
+use Rattle.pbm_reader.specs.Page.{IsPageSize}
+use Rattle.pbm_reader.specs.Spelling.{IsSomeHeader, HasHeader, IsRaster, MayFollow}
 
 -- the bytes begin with this front
 abbrev pub Begins : List ℕ → List ℕ → Type 0
@@ -13,51 +15,154 @@ Begins front bytes = (rest : List ℕ) × (bytes ≡ front ++ rest)
 abbrev pub HasMagic : List ℕ → Type 0
 HasMagic bytes = Begins (codes "P1") bytes ⊎ Begins (codes "P4") bytes
 
--- the bytes begin a header, and aren't all of it
-pub record IsFrontOfHeader (bytes : List ℕ) : Type 0 where
+-- the bytes begin a text of this kind, and aren't all of it
+pub record IsFrontOf (IsText : List ℕ → Type 0) (bytes : List ℕ) : Type 0 where
   pub rest : List ℕ
-  pub width : ℕ
-  pub height : ℕ
   pub some : 0 < length rest
-  pub is_header : IsHeader (bytes ++ rest) width height
+  pub is_text : IsText (bytes ++ rest)
 
--- the bytes begin what spells a page, and aren't all of it
-pub record IsFrontOfPage (bytes : List ℕ) : Type 0 where
-  pub rest : List ℕ
-  pub page : Page
-  pub some : 0 < length rest
-  pub spells : Spells (bytes ++ rest) page
+-- the bytes before this offset begin a text of this kind, and with the byte at this offset they begin none
+pub record StopsAt (IsText : List ℕ → Type 0) (bytes : List ℕ) (at : ℕ) : Type 0 where
+  pub front : List ℕ
+  pub byte : ℕ
+  pub more : List ℕ
+  pub whole : bytes ≡ front ++ byte ∷ more
+  pub place : at ≡ length front
+  pub begins : IsFrontOf IsText front
+  pub wrong : (rest : List ℕ) → IsText (front ++ byte ∷ rest) → ⊥
 
 -- the first byte is no `P` or is missing, or the second names no form of PBM or is missing
 abbrev pub IsMagicFault : List ℕ → ℕ → Type 0
 IsMagicFault input at = ((at ≡ 0) × (Begins (codes "P") input → ⊥)) ⊎ ((at ≡ 1) × Begins (codes "P") input × (HasMagic input → ⊥))
 
--- the bytes before this offset begin a header, and with the byte at this offset they begin none
+-- a header cannot have the byte at this offset there
 pub record IsHeaderFault (input : List ℕ) (at : ℕ) : Type 0 where
   pub magic : HasMagic input
-  pub within : at < length input
-  pub front : IsFrontOfHeader (take at input)
-  pub wrong : (rest : List ℕ) (width height : ℕ) → IsHeader (take (at + 1) input ++ rest) width height → ⊥
+  pub low : at < 65536
+  pub stops : StopsAt IsSomeHeader input at
 
--- the input ends at this offset, before the page that it begins
+-- the first 65,536 bytes begin a header, aren't all of it, and a byte follows them
+pub record IsHeaderTooLong (input : List ℕ) : Type 0 where
+  pub front : List ℕ
+  pub behind : List ℕ
+  pub whole : input ≡ front ++ behind
+  pub len : length front ≡ 65536
+  pub begins : IsFrontOf IsSomeHeader front
+  pub more : 0 < length behind
+
+-- the header is whole, and says that the page has these sizes
+pub record HasSizes (input : List ℕ) (form : Form) (width height : ℕ) : Type 0 where
+  pub header : List ℕ
+  pub behind : List ℕ
+  pub has_header : HasHeader input header behind form width height
+
+-- the header is whole, and a size is 0
+pub record IsZeroSize (input : List ℕ) : Type 0 where
+  pub form : Form
+  pub width : ℕ
+  pub height : ℕ
+  pub sizes : HasSizes input form width height
+  pub zero : (width ≡ 0) ⊎ (height ≡ 0)
+
+-- the header is whole, no size is 0, no page has these sizes; a size above 999,999,999 is told as 999,999,999
+pub record IsTooLarge (input : List ℕ) (wide high : ℕ) : Type 0 where
+  pub form : Form
+  pub width : ℕ
+  pub height : ℕ
+  pub sizes : HasSizes input form width height
+  pub some_width : 0 < width
+  pub some_height : 0 < height
+  pub large : IsPageSize width height → ⊥
+  pub width_told : wide ≡ min width 999999999
+  pub height_told : high ≡ min height 999999999
+
+-- why no page has the sizes that a header told
+abbrev pub IsSizeFault : ℕ → ℕ → PageFault → Type 0
+IsSizeFault width height faults.ZeroSize = (width ≡ 0) ⊎ (height ≡ 0)
+IsSizeFault width height (faults.TooLarge wide high) = (0 < width) × (0 < height) × (IsPageSize width height → ⊥) × (wide ≡ width) × (high ≡ height)
+IsSizeFault width height fault = ⊥
+
+-- the input begins with a header whose sizes a page can have, and these bytes are behind it
+pub record HasPageHeader (input header behind : List ℕ) (form : Form) (width height : ℕ) : Type 0 where
+  pub has_header : HasHeader input header behind form width height
+  pub size : IsPageSize width height
+
+-- the bytes are from 2 to 65,536, and begin a header
+pub record EndsInHeader (input : List ℕ) : Type 0 where
+  pub some : 2 ≤ length input
+  pub short : length input ≤ 65536
+  pub begins : IsFrontOf IsSomeHeader input
+
+-- the header is whole, and the bytes behind it begin its raster
+pub record EndsInRaster (input : List ℕ) : Type 0 where
+  pub form : Form
+  pub width : ℕ
+  pub height : ℕ
+  pub header : List ℕ
+  pub behind : List ℕ
+  pub has_header : HasPageHeader input header behind form width height
+  pub begins : IsFrontOf (IsRaster form width height) behind
+
+-- the input ends at this offset, before the header or the raster is whole
 pub record IsTruncated (input : List ℕ) (at : ℕ) : Type 0 where
-  pub magic : HasMagic input
   pub end : at ≡ length input
-  pub front : IsFrontOfPage input
+  pub short : at ≤ 268435456
+  pub part : EndsInHeader input ⊎ EndsInRaster input
 
--- a page ends at this offset, and here stands one more byte
+-- the raster, which is plain, cannot have the byte at this offset there
+pub record IsPixelFault (input : List ℕ) (at : ℕ) : Type 0 where
+  pub width : ℕ
+  pub height : ℕ
+  pub header : List ℕ
+  pub behind : List ℕ
+  pub has_header : HasPageHeader input header behind Plain width height
+  pub place : ℕ
+  pub stops : StopsAt (IsRaster Plain width height) behind place
+  pub place_is : at ≡ length header + place
+  pub low : at < 268435456
+
+-- a header and its raster end at this offset, and here stands a byte that may not follow them
 pub record IsTrailing (input : List ℕ) (at : ℕ) : Type 0 where
-  pub within : at < length input
-  pub page : IsPage (take at input)
+  pub form : Form
+  pub width : ℕ
+  pub height : ℕ
+  pub header : List ℕ
+  pub raster : List ℕ
+  pub byte : ℕ
+  pub more : List ℕ
+  pub has_header : HasPageHeader input header (raster ++ byte ∷ more) form width height
+  pub is_raster : IsRaster form width height raster
+  pub refused : MayFollow form (byte ∷ []) → ⊥
+  pub place_is : at ≡ length header + length raster
+  pub low : at < 268435456
+
+-- the input has this fault, which isn't its length
+abbrev pub HasFaultWithin : List ℕ → PageFault → Type 0
+HasFaultWithin input (faults.Magic at) = IsMagicFault input at
+HasFaultWithin input (faults.Header at) = IsHeaderFault input at
+HasFaultWithin input faults.HeaderTooLong = IsHeaderTooLong input
+HasFaultWithin input faults.ZeroSize = IsZeroSize input
+HasFaultWithin input (faults.TooLarge width height) = IsTooLarge input width height
+HasFaultWithin input (faults.Truncated at) = IsTruncated input at
+HasFaultWithin input (faults.Pixel at) = IsPixelFault input at
+HasFaultWithin input (faults.Trailing at) = IsTrailing input at
+HasFaultWithin input faults.InputTooLong = ⊥
+HasFaultWithin input faults.ReadFault = ⊥
+HasFaultWithin input faults.Memory = ⊥
+
+-- the first 268,435,456 bytes decide none of these faults, and a byte follows them
+pub record IsInputTooLong (input : List ℕ) : Type 0 where
+  pub front : List ℕ
+  pub behind : List ℕ
+  pub whole : input ≡ front ++ behind
+  pub len : length front ≡ 268435456
+  pub more : 0 < length behind
+  pub undecided : (fault : PageFault) → ((rest : List ℕ) → HasFaultWithin (front ++ rest) fault) → ⊥
 
 -- the input has this fault
 abbrev pub HasFault : List ℕ → PageFault → Type 0
-HasFault input (faults.Magic at) = IsMagicFault input at
-HasFault input (faults.Header at) = IsHeaderFault input at
-HasFault input (faults.Truncated at) = IsTruncated input at
-HasFault input (faults.Trailing at) = IsTrailing input at
-HasFault input faults.ReadFault = ⊥
-HasFault input faults.Memory = ⊥
+HasFault input faults.InputTooLong = IsInputTooLong input
+HasFault input fault = HasFaultWithin input fault
 
 -- whatever follows these bytes, they have this fault
 abbrev pub Decides : List ℕ → PageFault → Type 0

@@ -1,7 +1,9 @@
 -- What a row sink becomes that is given the rows of a page.
 use Rattle.std.specs.Prelude.{◌≡◌, ◌≤◌, ◌⊎◌, ℕ, ◌*◌, zero, suc, List, ◌++◌, length, Option, IfSome}
+use Rattle.pbm_reader.specs.declared.form.Form.{Form}
+use Rattle.pbm_reader.specs.declared.form.Form.TheVariants.{Plain, Raw}
 use Rattle.pbm_reader.specs.Page.{Page, IsRowOf, row_len}
-use Rattle.pbm_reader.specs.Spelling.{IsHeader, raster_page}
+use Rattle.pbm_reader.specs.Spelling.{IsHeader, SpellsPixels, pixels_page, raster_page}
 
 -- the sink that these first rows of the page make of a sink, one row after the other
 abbrev pub AfterRows : {Sink : Type 0} → (Sink → List ℕ → Sink → Type 0) → Page → ℕ → Sink → Sink → Type 0
@@ -18,21 +20,31 @@ pub record AfterPage {Sink : Type 0} (begun : Sink → ℕ → ℕ → Sink → 
 abbrev pub Stays : {Sink : Type 0} → (Sink → Sink → Type 0) → Sink → Sink → Type 0
 Stays unchanged old new = (new ≡ old) ⊎ unchanged old new
 
+-- the bytes behind a header begin with what has the first rows of this page whole
+abbrev pub HasTopRows : Form → ℕ → ℕ → List ℕ → ℕ → Page → Type 0
+HasTopRows Plain width height behind count page =
+    (pixels : List ℕ) × (part : List ℕ) × (rest : List ℕ) × (behind ≡ part ++ rest) × SpellsPixels pixels part
+    × (count * width ≤ length pixels) × (page ≡ pixels_page width height pixels)
+HasTopRows Raw width height behind count page =
+    (part : List ℕ) × (rest : List ℕ) × (behind ≡ part ++ rest) × (count * row_len width ≤ length part) × (page ≡ raster_page width height part)
+
 -- the sink that began with the size in the input's header, and was given the first rows, each whole in the bytes behind the header
 pub record AfterTopRows {Sink : Type 0} (begun : Sink → ℕ → ℕ → Sink → Type 0) (given : Sink → List ℕ → Sink → Type 0) (unchanged : Sink → Sink → Type 0)
     (left : Option (List ℕ)) (old new : Sink) : Type 0 where
+  pub form : Form
   pub width : ℕ
   pub height : ℕ
   pub header : List ℕ
-  pub raster : List ℕ
-  pub input : IfSome left (λ input. input ≡ header ++ raster)
-  pub is_header : IsHeader header width height
+  pub behind : List ℕ
+  pub input : IfSome left (λ input. input ≡ header ++ behind)
+  pub is_header : IsHeader header form width height
   pub empty : Sink
   pub begins : begun old width height empty
   pub count : ℕ
-  pub whole : count * row_len width ≤ length raster
+  pub page : Page
+  pub whole : HasTopRows form width height behind count page
   pub top : Sink
-  pub rows : AfterRows given (raster_page width height raster) count empty top
+  pub rows : AfterRows given page count empty top
   pub stays : Stays unchanged top new
 
 -- the sink after a fault: it was given nothing, or top rows of the page that the bytes begin

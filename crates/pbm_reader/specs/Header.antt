@@ -1,55 +1,54 @@
--- Reading a header, byte by byte.
-use Rattle.std.specs.Prelude.{ℕ, ◌+◌, ◌-◌, ◌*◌, ◌&&◌, ◌==◌, List, [], ◌∷◌, Option, Some, None, Result, Ok, Err, option_map, nat_le, if◌then◌else◌}
+-- What one more byte makes of a header that is read so far, for the private calls of the header's reader.
+use Rattle.std.specs.Prelude.{ℕ, ◌+◌, ◌-◌, ◌*◌, ◌==◌, min, Option, Some, None, option_map, if◌then◌else◌}
+use Rattle.pbm_reader.specs.declared.form.Form.{Form}
+use Rattle.pbm_reader.specs.declared.form.Form.TheVariants.{Plain, Raw}
 use Rattle.pbm_reader.specs.declared.state.HeaderState.{HeaderState}
-use Rattle.pbm_reader.specs.declared.state.HeaderState.TheVariants.{Magic, Kind, Line, WidthFirst, Width, HeightFirst, Height}
-use Rattle.pbm_reader.specs.declared.state.Progress.{Progress}
-use Rattle.pbm_reader.specs.declared.state.Progress.TheVariants.{Going, Whole}
-use Rattle.pbm_reader.specs.declared.header.Header.{Header}
-use Rattle.pbm_reader.specs.declared.fault.Size.{Size}
+use Rattle.pbm_reader.specs.declared.state.HeaderState.TheVariants.{Magic, Kind, Named, WidthGap, WidthComment, Width, HeightGap, HeightComment, Height, Whole}
 use Rattle.pbm_reader.specs.declared.fault.PageFault.{PageFault}
 use Rattle.pbm_reader.specs.declared.fault.PageFault.TheVariants as faults
+use Rattle.pbm_reader.specs.Spelling.{is_white, is_line_end, is_digit}
 
--- the number that begins with this digit
-abbrev pub first_digit : ℕ → Option ℕ
-first_digit byte = if nat_le 49 byte && nat_le byte 57 then Some (byte - 48) else None
+-- the form that this byte names behind a `P`
+abbrev pub form_of : ℕ → Option Form
+form_of byte = if byte == 49 then Some Plain else if byte == 52 then Some Raw else None
 
--- the number with one more digit behind it
+-- the number with one more digit behind it; numbers above 999,999,999 aren't told apart
+abbrev pub longer : ℕ → ℕ → ℕ
+longer number digit = min (10 * number + (digit - 48)) 999999999
+
 abbrev pub with_digit : ℕ → ℕ → Option ℕ
-with_digit number byte = if nat_le 48 byte && nat_le byte 57 && nat_le (10 * number + (byte - 48)) 4096 then Some (10 * number + (byte - 48)) else None
+with_digit number byte = if is_digit byte then Some (longer number byte) else None
 
-abbrev pub going : HeaderState → Progress
-going state = Going state
+-- what is behind a byte where a gap may stand: the gap, a comment in it, or something else
+abbrev pub in_gap : {State : Type 0} → State → State → Option State → ℕ → Option State
+in_gap gap comment other byte = if is_white byte then Some gap else if byte == 35 then Some comment else other
+
+-- a comment ends with its line
+abbrev pub in_comment : {State : Type 0} → State → State → ℕ → Option State
+in_comment gap comment byte = if is_line_end byte then Some gap else Some comment
 
 -- what one more byte makes of a header, or none where no header has this byte here
-abbrev pub next_state : HeaderState → ℕ → Option Progress
-next_state Magic byte = if byte == 80 then Some (Going Kind) else None
-next_state Kind byte = if byte == 52 then Some (Going Line) else None
-next_state Line byte = if byte == 10 then Some (Going WidthFirst) else None
-next_state WidthFirst byte = option_map (λ w. Going (Width w)) (first_digit byte)
-next_state (Width width) byte = if byte == 32 then Some (Going (HeightFirst width)) else option_map (λ w. Going (Width w)) (with_digit width byte)
-next_state (HeightFirst width) byte = option_map (λ h. Going (Height width h)) (first_digit byte)
-next_state (Height width height) byte =
-    if byte == 10 then Some (Whole (record { width = width; height = height })) else option_map (λ h. Going (Height width h)) (with_digit height byte)
+abbrev pub next_state : HeaderState → ℕ → Option HeaderState
+next_state Magic byte = if byte == 80 then Some Kind else None
+next_state Kind byte = option_map (λ form. Named form) (form_of byte)
+next_state (Named form) byte = in_gap (WidthGap form) (WidthComment form) None byte
+next_state (WidthGap form) byte = in_gap (WidthGap form) (WidthComment form) (option_map (λ w. Width form w) (with_digit 0 byte)) byte
+next_state (WidthComment form) byte = in_comment (WidthGap form) (WidthComment form) byte
+next_state (Width form width) byte = in_gap (HeightGap form width) (HeightComment form width) (option_map (λ w. Width form w) (with_digit width byte)) byte
+next_state (HeightGap form width) byte =
+    in_gap (HeightGap form width) (HeightComment form width) (option_map (λ h. Height form width h) (with_digit 0 byte)) byte
+next_state (HeightComment form width) byte = in_comment (HeightGap form width) (HeightComment form width) byte
+next_state (Height form width height) byte = if is_white byte then Some (Whole form width height) else option_map (λ h. Height form width h) (with_digit height byte)
+next_state (Whole form width height) byte = None
 
 -- the fault where no header has this byte here
-abbrev pub wrong_byte : HeaderState → ℕ → ℕ → PageFault
-wrong_byte Magic byte at = faults.Magic at
-wrong_byte Kind byte at = if byte == 49 then faults.Header at else faults.Magic at
-wrong_byte state byte at = faults.Header at
+abbrev pub wrong_byte : HeaderState → ℕ → PageFault
+wrong_byte Magic at = faults.Magic at
+wrong_byte Kind at = faults.Magic at
+wrong_byte state at = faults.Header at
 
 -- the fault where the input ends here
 abbrev pub missing_byte : HeaderState → ℕ → PageFault
 missing_byte Magic at = faults.Magic at
 missing_byte Kind at = faults.Magic at
 missing_byte state at = faults.Truncated at
-
-abbrev pub resume : {X : Type 0} → Option Progress → PageFault → (HeaderState → Result X PageFault) → (Size → Result X PageFault) → Result X PageFault
-resume None fault go done = Err fault
-resume (Some (Going state)) fault go done = go state
-resume (Some (Whole size)) fault go done = done size
-
--- the header that these bytes, from this offset on, complete, and the bytes after it; or the first fault
-unfoldable pub header_at : ℕ → HeaderState → List ℕ → Result (Header × List ℕ) PageFault
-header_at at state [] = Err (missing_byte state at)
-header_at at state (byte ∷ bytes) =
-    resume (next_state state byte) (wrong_byte state byte at) (λ next. header_at (at + 1) next bytes) (λ size. Ok (record { size = size; len = at + 1 }, bytes))

@@ -7,3 +7,5 @@ pub mod Left
 pub mod Reading
 pub mod Header
 pub mod Raster
+pub mod Plain
+pub mod Tail

@@ -1,10 +1,13 @@
 -- Reading the rows of a page.
-use Rattle.std.specs.Prelude.{◌≡◌, ◌<◌, ◌≤◌, ℕ, ◌+◌, ◌*◌, List, ◌++◌, length, Option, IfSome, ⊤, nat_lt, if◌then◌else◌}
+use Rattle.std.specs.Prelude.{◌≡◌, ◌<◌, ◌≤◌, ℕ, ◌+◌, List, [], ◌∷◌, ◌++◌, length, Option, IfSome, ⊤, nat_lt, if◌then◌else◌}
 use Rattle.pbm_reader.specs.declared.fault.PageFault.{PageFault}
 use Rattle.pbm_reader.specs.declared.fault.PageFault.TheVariants as faults
-use Rattle.pbm_reader.specs.Page.{pixel, row_len}
-use Rattle.pbm_reader.specs.Spelling.{raster_page}
-use Rattle.pbm_reader.specs.Given.{AfterRows, Stays}
+use Rattle.pbm_reader.specs.declared.form.Form.{Form}
+use Rattle.pbm_reader.specs.declared.form.Form.TheVariants.{Plain}
+use Rattle.pbm_reader.specs.Page.{Page, pixel, row_len}
+use Rattle.pbm_reader.specs.Spelling.{IsRaster, SpellsRows}
+use Rattle.pbm_reader.specs.Fault.{IsFrontOf}
+use Rattle.pbm_reader.specs.Given.{AfterRows, HasTopRows, Stays}
 use Rattle.pbm_reader.specs.Left.{Took, TookAll}
 
 -- a row whose padding bits are cleared
@@ -28,16 +31,39 @@ BytesFail old new at len faults.ReadFault = (part : List ℕ) × Took old new pa
 BytesFail old new at len faults.Memory = ⊤
 BytesFail old new at len fault = ⊥
 
--- the first rows of the page that these bytes begin were given, whatever follows them
-abbrev pub GivenRows : {Sink : Type 0} → (Sink → List ℕ → Sink → Type 0) → ℕ → ℕ → List ℕ → ℕ → Sink → Sink → Type 0
-GivenRows given width height raster y old new = (rest : List ℕ) → AfterRows given (raster_page width height (raster ++ rest)) y old new
+-- the raster of a page was taken, up to this offset, and the sink was given its rows
+pub record TookRaster {Sink : Type 0} (given : Sink → List ℕ → Sink → Type 0) (old new : Option (List ℕ)) (form : Form) (width height start end : ℕ) (before after : Sink) : Type 0 where
+  pub raster : List ℕ
+  pub page : Page
+  pub took : Took old new raster
+  pub width_is : page.width ≡ width
+  pub height_is : page.height ≡ height
+  pub rows : SpellsRows form page raster
+  pub gives : AfterRows given page height before after
+  pub end_is : end ≡ start + length raster
+  pub low : end ≤ 268435456
+
+-- why a raster was not read, from this offset on
+abbrev pub RasterFails : Option (List ℕ) → Option (List ℕ) → Form → ℕ → ℕ → ℕ → PageFault → Type 0
+RasterFails old new form width height start (faults.Truncated end) =
+    (part : List ℕ) × TookAll old new part × IsFrontOf (IsRaster form width height) part × (end ≡ start + length part) × (end ≤ 268435456)
+RasterFails old new form width height start (faults.Pixel at) =
+    (part : List ℕ) × (byte : ℕ) × Took old new (part ++ byte ∷ []) × (form ≡ Plain) × IsFrontOf (IsRaster form width height) part
+    × ((rest : List ℕ) → IsRaster form width height (part ++ byte ∷ rest) → ⊥) × (at ≡ start + length part) × (at < 268435456)
+RasterFails old new form width height start faults.InputTooLong =
+    (part : List ℕ) × (byte : ℕ) × Took old new (part ++ byte ∷ []) × IsFrontOf (IsRaster form width height) part × (start + length part ≡ 268435456)
+RasterFails old new form width height start faults.ReadFault =
+    (part : List ℕ) × Took old new part × IsFrontOf (IsRaster form width height) part × (start + length part ≤ 268435456)
+RasterFails old new form width height start faults.Memory = ⊤
+RasterFails old new form width height start fault = ⊥
 
 -- the first rows were given, each whole in the bytes that were left; the last call may have been refused
-pub record GivenTopRows {Sink : Type 0} (given : Sink → List ℕ → Sink → Type 0) (unchanged : Sink → Sink → Type 0) (width height : ℕ) (left : Option (List ℕ)) (old new : Sink) : Type 0 where
-  pub raster : List ℕ
-  pub all : IfSome left (λ bytes. bytes ≡ raster)
+pub record GivenTopRows {Sink : Type 0} (given : Sink → List ℕ → Sink → Type 0) (unchanged : Sink → Sink → Type 0) (form : Form) (width height : ℕ) (left : Option (List ℕ)) (old new : Sink) : Type 0 where
+  pub behind : List ℕ
+  pub all : IfSome left (λ bytes. bytes ≡ behind)
   pub count : ℕ
-  pub whole : count * row_len width ≤ length raster
+  pub page : Page
+  pub whole : HasTopRows form width height behind count page
   pub top : Sink
-  pub rows : AfterRows given (raster_page width height raster) count old top
+  pub rows : AfterRows given page count old top
   pub stays : Stays unchanged top new

@@ -14,7 +14,7 @@ pub struct Size {
 
 /// Why no page was read. An offset `at` counts the bytes of the input before the one that is meant.
 ///
-/// The first four are faults of the input, which exclude each other and come exactly where the
+/// All but the last two are faults of the input, which exclude each other and come exactly where the
 /// whole input has them; the last two say that it was not read to the end.
 #[derive(Debug, Clone, Copy, PartialEq, Eq, Drop)]
 pub enum PageFault {
@@ -22,10 +22,22 @@ pub enum PageFault {
     Magic { at: u64 },
     /// The bytes before this one begin a header, and no header has this byte here.
     Header { at: u64 },
+    /// The first 65,536 bytes begin a header, and more bytes follow them.
+    HeaderTooLong,
+    /// The header says that a side is 0.
+    ZeroSize,
+    /// The header says that a side is above 8,192 pixels, or that there are more than 33,554,432
+    /// pixels. A side above 999,999,999 is told as 999,999,999.
+    TooLarge { width: u32, height: u32 },
     /// The input ends here, before the header or the last row is whole.
     Truncated { at: u64 },
-    /// A page ends here, and a byte follows it.
+    /// The bytes before this one begin a plain raster, and no raster has this byte here.
+    Pixel { at: u64 },
+    /// A raster ends here, and this byte may not follow it: any in the raw form, one that isn't white
+    /// in the plain form.
     Trailing { at: u64 },
+    /// The first 268,435,456 bytes decide none of the faults above, and more bytes follow them.
+    InputTooLong,
     /// A read of the source failed before the bytes that it gave decided one of the faults above.
     ReadFault,
     /// Memory was refused, here or in the row sink.

@@ -70,6 +70,16 @@ impl Feed {
         count
     }
 
+    /// Drops the unread bytes, and says how many there were.
+    fn clear(&mut self) -> usize
+        ensures count { result ≡ length self.old }
+        ensures empty { self.new ≡ [] }
+    {
+        let count = self.end - self.at;
+        self.at = self.end;
+        count
+    }
+
     /// Reads the next piece, in the place of the last.
     fn refill<S: Source>(&mut self, src: &mut S) -> Result<(), Failed>
         ensures bytes { OnOk result (S.left src.old ≡ prepend_known self.new (S.left src.new)) }
@@ -116,6 +126,21 @@ fn next_bytes<S: Source>(src: &mut S, feed: &mut Feed, buf: &mut [u8]) -> Result
         feed.refill(src)?;
     }
     Ok(feed.copy_to(buf))
+}
+
+/// Drops the next bytes, as many as are at hand, and says how many. None is the end of the input.
+pub(crate) fn drop_bytes<S: Source>(src: &mut S, feed: &mut Feed) -> Result<usize, Failed>
+    ensures bytes { IfOk result (λ count. (bytes : List ℕ) × (count ≡ length bytes)
+        × Took (left_of (S.left src.old) feed.old) (left_of (S.left src.new) feed.new) bytes) }
+    ensures end { IfOk result (λ count. count ≡ 0 → IsAtEnd (left_of (S.left src.new) feed.new)) }
+    ensures err { OnErr result (left_of (S.left src.new) feed.new ≡ left_of (S.left src.old) feed.old) }
+    ensures drained { OnErr result (feed.new ≡ []) }
+    ensures cause { HasCause (S.faults src.old) (S.faults src.new) result }
+{
+    if feed.is_empty() {
+        feed.refill(src)?;
+    }
+    Ok(feed.clear())
 }
 
 /// Fills a buffer with the next bytes, and says how many there were: fewer only at the end.

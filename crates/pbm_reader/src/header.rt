@@ -1,88 +1,49 @@
 //! The header of a page.
-ghost use Rattle.std.specs.Prelude.{◌≡◌, ◌++◌, ◌<◌, ◌^◌, List, [], ℕ, IfOk, IfErr};
+ghost use Rattle.std.specs.Prelude.{◌≡◌, ◌≤◌, ◌<◌, ◌^◌, List, [], ℕ, IfOk, IfErr};
 ghost use Rattle.pbm_reader.specs.Page.{IsPageSize};
 ghost use Rattle.pbm_reader.specs.Reading.{HasReadCause, Refuses};
-ghost use Rattle.pbm_reader.specs.Left.{left_of, Took};
-ghost use Rattle.pbm_reader.specs.Header.{first_digit, with_digit, next_state, wrong_byte, missing_byte, header_at};
+ghost use Rattle.pbm_reader.specs.Left.{left_of, Took, TookHeader, TookSizes};
+ghost use Rattle.pbm_reader.specs.Fault.{IsSizeFault};
+ghost use Rattle.pbm_reader.specs.Header.{wrong_byte, missing_byte};
 
 use crate::fault::{PageFault, Size};
 use crate::feed::{Feed, next_byte};
-use crate::state::{HeaderState, Progress};
+use crate::form::Form;
+use crate::state::{HeaderState, next_state};
 use layout_outside::Source;
 
 /// The greatest width, and the greatest height.
-const MAX_SIDE: u16 = 4096;
+const MAX_SIDE: u32 = 8192;
 
-/// A header, and how many bytes it takes.
+/// The greatest number of pixels.
+const MAX_PIXELS: u32 = 33_554_432;
+
+/// How many bytes a header may have.
+const MAX_HEADER: u64 = 65_536;
+
+/// A header that a page can have, and how many bytes it takes.
 #[derive(Debug, Clone, Copy, PartialEq, Eq, Drop)]
 pub struct Header {
+    pub form: Form,
     pub size: Size,
     pub len: u64,
 }
 
-/// The number with one more digit behind it, or none where the byte is no digit or the number
-/// gets too great.
-fn with_digit(number: u16, byte: u8) -> Option<u16>
-    ensures { result ≡ with_digit number byte }
-{
-    if !byte.is_ascii_digit() {
-        return None;
-    }
-    let longer = 10 * u32::from(number) + u32::from(byte - b'0');
-    if longer <= u32::from(MAX_SIDE) {
-        Some(longer as u16)
-    } else {
-        None
-    }
-}
-
-/// The number that begins with this digit, or none where the byte is none from 1 to 9.
-fn first_digit(byte: u8) -> Option<u16>
-    ensures { result ≡ first_digit byte }
-{
-    if b'1' <= byte && byte <= b'9' {
-        Some(u16::from(byte - b'0'))
-    } else {
-        None
-    }
-}
-
-/// How far a header is read with one more byte, or none where no header has this byte here.
-fn next_state(state: HeaderState, byte: u8) -> Option<Progress>
-    ensures { result ≡ next_state state byte }
-{
-    match state {
-        HeaderState::Magic if byte == b'P' => Some(Progress::Going(HeaderState::Kind)),
-        HeaderState::Kind if byte == b'4' => Some(Progress::Going(HeaderState::Line)),
-        HeaderState::Line if byte == b'\n' => Some(Progress::Going(HeaderState::WidthFirst)),
-        HeaderState::WidthFirst => { Some(Progress::Going(HeaderState::Width(first_digit(byte)?))) }
-        HeaderState::Width(width) if byte == b' ' => {
-            Some(Progress::Going(HeaderState::HeightFirst(width)))
-        }
-        HeaderState::Width(width) => {
-            Some(Progress::Going(HeaderState::Width(with_digit(width, byte)?)))
-        }
-        HeaderState::HeightFirst(width) => {
-            Some(Progress::Going(HeaderState::Height(width, first_digit(byte)?)))
-        }
-        HeaderState::Height(width, height) if byte == b'\n' => {
-            Some(Progress::Whole(Size { width, height }))
-        }
-        HeaderState::Height(width, height) => Some(Progress::Going(HeaderState::Height(
-            width,
-            with_digit(height, byte)?,
-        ))),
-        _ => None,
-    }
+/// What a header says, and how many bytes it takes. A size is at most 999,999,999.
+#[derive(Debug, Clone, Copy, PartialEq, Eq, Drop)]
+pub struct Told {
+    pub form: Form,
+    pub width: u32,
+    pub height: u32,
+    pub len: u64,
 }
 
 /// The fault where a header is read so far and has no such byte at this offset.
-fn wrong_byte(state: HeaderState, byte: u8, at: u64) -> PageFault
-    ensures { result ≡ wrong_byte state byte at }
+fn wrong_byte(state: HeaderState, at: u64) -> PageFault
+    ensures { result ≡ wrong_byte state at }
 {
     match state {
-        HeaderState::Magic => PageFault::Magic { at },
-        HeaderState::Kind if byte != b'1' => PageFault::Magic { at },
+        HeaderState::Magic | HeaderState::Kind => PageFault::Magic { at },
         _ => PageFault::Header { at },
     }
 }
@@ -97,30 +58,66 @@ fn missing_byte(state: HeaderState, at: u64) -> PageFault
     }
 }
 
-/// Reads a header.
-pub(crate) fn read_header<S: Source>(src: &mut S, feed: &mut Feed) -> Result<Header, PageFault>
-    ensures header { IfOk result (λ header. (taken : List ℕ)
-        × Took (left_of (S.left src.old) feed.old) (left_of (S.left src.new) feed.new) taken
-        × ((rest : List ℕ) → header_at 0 HeaderState.Magic (taken ++ rest) ≡ Ok (header, rest))) }
-    ensures size { IfOk result (λ header. IsPageSize header.size.width header.size.height) }
-    ensures short { IfOk result (λ header. header.len < 2 ^ 32) }
+/// Reads a header to its last byte, whatever sizes it says.
+fn read_told<S: Source>(src: &mut S, feed: &mut Feed) -> Result<Told, PageFault>
+    ensures told { IfOk result (TookSizes (left_of (S.left src.old) feed.old) (left_of (S.left src.new) feed.new)) }
     ensures fault { IfErr result (Refuses (left_of (S.left src.old) feed.old) (left_of (S.left src.new) feed.new)) }
     ensures drained { result ≡ Err PageFault.ReadFault → feed.new ≡ [] }
     ensures cause { HasReadCause (S.faults src.old) (S.faults src.new) result }
 {
     let mut state = HeaderState::Magic;
-    let mut at = 0;
-    loop {
+    for at in 0..MAX_HEADER {
         let Some(byte) = next_byte(src, feed)? else {
             return Err(missing_byte(state, at));
         };
-        let Some(progress) = next_state(state, byte) else {
-            return Err(wrong_byte(state, byte, at));
+        let Some(next) = next_state(state, byte) else {
+            return Err(wrong_byte(state, at));
         };
-        match progress {
-            Progress::Whole(size) => return Ok(Header { size, len: at + 1 }),
-            Progress::Going(next) => state = next,
+        if let HeaderState::Whole(form, width, height) = next {
+            return Ok(Told {
+                form,
+                width,
+                height,
+                len: at + 1,
+            });
         }
-        at += 1;
+        state = next;
     }
+    match next_byte(src, feed)? {
+        Some(_) => Err(PageFault::HeaderTooLong),
+        None => Err(PageFault::Truncated { at: MAX_HEADER }),
+    }
+}
+
+/// The size of a page with these sides, or why no page has them.
+fn page_size(width: u32, height: u32) -> Result<Size, PageFault>
+    ensures size { IfOk result (λ size. IsPageSize width height × (size.width ≡ width) × (size.height ≡ height)) }
+    ensures fault { IfErr result (IsSizeFault width height) }
+{
+    if width == 0 || height == 0 {
+        return Err(PageFault::ZeroSize);
+    }
+    if width > MAX_SIDE || height > MAX_SIDE || width * height > MAX_PIXELS {
+        return Err(PageFault::TooLarge { width, height });
+    }
+    Ok(Size {
+        width: width as u16,
+        height: height as u16,
+    })
+}
+
+/// Reads a header, with sizes that a page can have.
+pub(crate) fn read_header<S: Source>(src: &mut S, feed: &mut Feed) -> Result<Header, PageFault>
+    ensures header { IfOk result (TookHeader (left_of (S.left src.old) feed.old) (left_of (S.left src.new) feed.new)) }
+    ensures fault { IfErr result (Refuses (left_of (S.left src.old) feed.old) (left_of (S.left src.new) feed.new)) }
+    ensures drained { result ≡ Err PageFault.ReadFault → feed.new ≡ [] }
+    ensures cause { HasReadCause (S.faults src.old) (S.faults src.new) result }
+{
+    let told = read_told(src, feed)?;
+    let size = page_size(told.width, told.height)?;
+    Ok(Header {
+        form: told.form,
+        size,
+        len: told.len,
+    })
 }

@@ -1,15 +1,17 @@
-//! Reads a black and white page: Netpbm's raw PBM in the narrow form, which is `P4`, a line feed,
-//! the width, a space, the height, a line feed, and the rows as packed bytes.
+//! Reads a black and white page: Netpbm's PBM, plain (`P1`) or raw (`P4`), with its comments.
 #![tactic(auto)]
 
 mod fault;
 mod feed;
+mod form;
 mod header;
 mod law;
 mod page;
+mod plain;
 mod raster;
 mod row_sink;
 mod state;
+mod tail;
 #[cfg(test)]
 mod tests;
 

@@ -1,7 +1,9 @@
 //! A whole page, from the first byte of the input to its end.
-ghost use Rattle.std.specs.Prelude.{◌≡◌, ℕ, List, [], Some, IfOk, IfErr, OnErr, IsOkUnless};
+ghost use Rattle.std.specs.Prelude.{◌≡◌, ◌≤◌, ℕ, List, [], Some, IfOk, IfErr, OnErr, IsOkUnless};
 ghost use Rattle.layout_outside.specs.Causes.{Rose};
 ghost use Rattle.pbm_reader.specs.declared.fault.PageFault.{PageFault};
+ghost use Rattle.pbm_reader.specs.Page.{IsPageSize};
+ghost use Rattle.pbm_reader.specs.Raster.{GivenTopRows, RasterFails, TookRaster};
 ghost use Rattle.pbm_reader.specs.Spelling.{IsPage};
 ghost use Rattle.pbm_reader.specs.Fault.{HasFault};
 ghost use Rattle.pbm_reader.specs.Given.{AfterFault};
@@ -9,15 +11,18 @@ ghost use Rattle.pbm_reader.specs.Left.{left_of};
 ghost use Rattle.pbm_reader.specs.Reading.{AnswersFault, HasReadCause, ReadsPage, Refuses};
 
 use crate::fault::{PageFault, Size};
-use crate::feed::{Feed, next_byte};
-use crate::header::read_header;
-use crate::raster::read_raster;
+use crate::feed::Feed;
+use crate::form::Form;
+use crate::header::{Header, read_header};
+use crate::plain::read_plain_raster;
+use crate::raster::read_raw_raster;
 use crate::row_sink::RowSink;
+use crate::tail::read_tail;
 use layout_outside::Source;
 use std::alloc::Global;
 
-/// Reads a page of Netpbm's raw PBM, in the narrow form, to the end of the input, and gives its rows
-/// to the sink from the top. Memory is taken for one piece of the input and one row.
+/// Reads a page of Netpbm's PBM, plain (`P1`) or raw (`P4`), to the end of the input, and gives its
+/// rows to the sink from the top. Memory is taken for one piece of the input and one row.
 ///
 /// `begin` is called once, when the header is whole, and `row` once for each row. Where the page is
 /// refused the sink was given nothing, or top rows that are whole in the input.
@@ -61,8 +66,34 @@ fn read_from<S: Source, R: RowSink>(
     let header = read_header(src, feed)?;
     rows.begin(header.size.width, header.size.height)?;
     let end = read_raster(alloc, src, feed, header, rows)?;
-    match next_byte(src, feed)? {
-        None => Ok(header.size),
-        Some(_) => Err(PageFault::Trailing { at: end }),
+    read_tail(src, feed, header.form, end)?;
+    Ok(header.size)
+}
+
+/// Reads the rows of a page in the form that its header names, gives each to the sink, and answers
+/// the offset of their end.
+fn read_raster<S: Source, R: RowSink>(
+    alloc: Global,
+    src: &mut S,
+    feed: &mut Feed,
+    header: Header,
+    rows: &mut R,
+) -> Result<u64, PageFault>
+    requires short { header.len ≤ 65536 }
+    requires size { IsPageSize header.size.width header.size.height }
+    requires width { R.width_of rows.old ≡ header.size.width }
+    requires rows { R.rows_left rows.old ≡ header.size.height }
+    ensures ok { IfOk result (λ end. TookRaster R.given (left_of (S.left src.old) feed.old)
+        (left_of (S.left src.new) feed.new) header.form header.size.width header.size.height header.len end rows.old rows.new) }
+    ensures fault { IfErr result (RasterFails (left_of (S.left src.old) feed.old)
+        (left_of (S.left src.new) feed.new) header.form header.size.width header.size.height header.len) }
+    ensures top { OnErr result (GivenTopRows R.given R.unchanged header.form header.size.width header.size.height
+        (left_of (S.left src.old) feed.old) rows.old rows.new) }
+    ensures drained { result ≡ Err PageFault.ReadFault → feed.new ≡ [] }
+    ensures cause { HasReadCause (S.faults src.old) (S.faults src.new) result }
+{
+    match header.form {
+        Form::Plain => read_plain_raster(alloc, src, feed, header, rows),
+        Form::Raw => read_raw_raster(alloc, src, feed, header, rows),
     }
 }

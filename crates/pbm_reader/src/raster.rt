@@ -1,10 +1,11 @@
-//! The rows of a page.
+//! The rows of a raw raster, eight pixels a byte.
 ghost use Rattle.std.specs.Prelude.{◌≡◌, ◌<◌, ◌≤◌, ◌+◌, ◌*◌, ◌^◌, ℕ, List, [], length, IfOk, IfErr, OnOk, OnErr};
 ghost use Rattle.pbm_reader.specs.Reading.{HasReadCause};
 ghost use Rattle.pbm_reader.specs.Left.{left_of, Took};
 ghost use Rattle.pbm_reader.specs.Given.{Stays};
 ghost use Rattle.pbm_reader.specs.Page.{IsPageSize, row_len};
-ghost use Rattle.pbm_reader.specs.Raster.{IsCleared, BytesFail, GivenRows, GivenTopRows, TakesRow};
+ghost use Rattle.pbm_reader.specs.declared.form.Form.TheVariants.{Raw};
+ghost use Rattle.pbm_reader.specs.Raster.{IsCleared, BytesFail, GivenTopRows, RasterFails, TakesRow, TookRaster};
 
 use crate::fault::PageFault;
 use crate::feed::{Feed, fill};
@@ -14,7 +15,7 @@ use layout_outside::Source;
 use std::alloc::Global;
 
 /// How many bytes a row of this width takes.
-fn row_len(width: u16) -> usize
+pub(crate) fn row_len(width: u16) -> usize
     ensures { result ≡ row_len width }
 {
     (usize::from(width) + 7) / 8
@@ -88,25 +89,23 @@ fn read_row<S: Source, R: RowSink>(
     Ok(())
 }
 
-/// Reads the rows of a page, gives each to the sink, and answers the offset of their end.
-pub(crate) fn read_raster<S: Source, R: RowSink>(
+/// Reads the rows of a raw raster, gives each to the sink, and answers the offset of their end.
+pub(crate) fn read_raw_raster<S: Source, R: RowSink>(
     alloc: Global,
     src: &mut S,
     feed: &mut Feed,
     header: Header,
     rows: &mut R,
 ) -> Result<u64, PageFault>
-    requires short { header.len < 2 ^ 32 }
+    requires short { header.len ≤ 65536 }
+    requires size { IsPageSize header.size.width header.size.height }
     requires width { R.width_of rows.old ≡ header.size.width }
     requires rows { R.rows_left rows.old ≡ header.size.height }
-    ensures end { IfOk result (λ end. end ≡ header.len + header.size.height * row_len header.size.width) }
-    ensures ok { OnOk result ((raster : List ℕ)
-        × Took (left_of (S.left src.old) feed.old) (left_of (S.left src.new) feed.new) raster
-        × (length raster ≡ header.size.height * row_len header.size.width)
-        × GivenRows R.given header.size.width header.size.height raster header.size.height rows.old rows.new) }
-    ensures fault { IfErr result (BytesFail (left_of (S.left src.old) feed.old)
-        (left_of (S.left src.new) feed.new) header.len (header.size.height * row_len header.size.width)) }
-    ensures top { OnErr result (GivenTopRows R.given R.unchanged header.size.width header.size.height
+    ensures ok { IfOk result (λ end. TookRaster R.given (left_of (S.left src.old) feed.old)
+        (left_of (S.left src.new) feed.new) Raw header.size.width header.size.height header.len end rows.old rows.new) }
+    ensures fault { IfErr result (RasterFails (left_of (S.left src.old) feed.old)
+        (left_of (S.left src.new) feed.new) Raw header.size.width header.size.height header.len) }
+    ensures top { OnErr result (GivenTopRows R.given R.unchanged Raw header.size.width header.size.height
         (left_of (S.left src.old) feed.old) rows.old rows.new) }
     ensures drained { result ≡ Err PageFault.ReadFault → feed.new ≡ [] }
     ensures cause { HasReadCause (S.faults src.old) (S.faults src.new) result }

@@ -1,6 +1,6 @@
 use Rattle.std.proofs.Common.{◌≡◌, Err, sym, ap, ◌∙◌, rules}
-use Rattle.layout_core.specs.declared.refusal.Refusal.TheVariants.{TooMany}
-use Rattle.layout_core.proofs.Ends.{ends_bad, ends_full, ends_unread, ends_unmade, ends_answered, ends_memory}
+use Rattle.layout_core.specs.declared.refusal.Refusal.TheVariants.{Page, TooMany}
+use Rattle.layout_core.proofs.Ends.{ends_bad, ends_limited, ends_unread, ends_unmade, ends_answered, ends_memory}
 use Rattle.layout_core.proofs.Wholes.{whole_layout}
 use Rattle.layout_core.proofs.top.layout_alone.Goals as goal
 
@@ -11,12 +11,18 @@ returns-in-Err-clause-bad_page g c =
     ends_bad (g.S.Source.left c.args.src.now) (g.S.Source.left c.read_layout.new.src) (g.E.Sink.written c.args.err.now) (g.E.Sink.written c.refuse-in-Err.new.err)
     (g.E.Sink.faults c.args.err.now) (g.E.Sink.faults c.refuse-in-Err.new.err) c.in-Err.refusal c.in-Err.ensures.refused out.line (sym out.status ∙ status)
 
-pub returns-in-Err-clause-too_many : goal.returns-in-Err-clause-too_many
-returns-in-Err-clause-too_many g c =
+pub returns-in-Err-clause-limited : goal.returns-in-Err-clause-limited
+returns-in-Err-clause-limited g c =
     let out = c.refuse-in-Err.ensures in
     λ status.
-    ends_full (g.S.Source.left c.args.src.now) (g.S.Source.left c.read_layout.new.src) (g.E.Sink.written c.args.err.now) (g.E.Sink.written c.refuse-in-Err.new.err)
+    ends_limited (g.S.Source.left c.args.src.now) (g.S.Source.left c.read_layout.new.src) (g.E.Sink.written c.args.err.now) (g.E.Sink.written c.refuse-in-Err.new.err)
     (g.E.Sink.faults c.args.err.now) (g.E.Sink.faults c.refuse-in-Err.new.err) c.in-Err.refusal c.in-Err.ensures.refused out.line (sym out.status ∙ status)
+
+pub returns-in-Err-clause-faulty : goal.returns-in-Err-clause-faulty
+returns-in-Err-clause-faulty g c =
+    let out = c.refuse-in-Err.ensures in
+    λ plan input fault told has calm.
+    ends_answered c.refuse-in-Err.result (Page fault) c.in-Err.refusal out.status (c.in-Err.ensures.faulty input fault told has calm).1
 
 pub returns-in-Err-clause-limit : goal.returns-in-Err-clause-limit
 returns-in-Err-clause-limit g c =

@@ -1,6 +1,6 @@
 use Rattle.std.proofs.Common.{◌∙◌}
 use Rattle.pbm_reader.specs.Left.{left_of}
-use Rattle.pbm_reader.proofs.WholePage.{from_empty, only_memory, only_fault}
+use Rattle.pbm_reader.proofs.WholePage.{from_empty, page_from, only_memory, only_fault}
 use Rattle.pbm_reader.proofs.page.read_page.Goals as goal
 
 pub returns-clause-complete : goal.returns-clause-complete
@@ -19,3 +19,8 @@ returns-clause-faulty g c =
     only_fault g.R.RowSink.begun g.R.RowSink.given (left_of before c.in_ok-feed.feed) (left_of after c.read_from.new.feed) c.args.rows.now c.read_from.new.rows
     (g.S.Source.faults c.args.src.now) (g.S.Source.faults c.read_from.new.src)
     c.read_from.result input fault c.read_from.ensures.page c.read_from.ensures.fault c.read_from.ensures.cause (from_empty before c.in_ok-feed.feed c.in_ok-feed.ensures ∙ told) has calm
+
+pub returns-clause-page : goal.returns-clause-page
+returns-clause-page g c =
+    page_from g.R.RowSink.begun g.R.RowSink.given (g.S.Source.left c.args.src.now) (g.S.Source.left c.read_from.new.src) c.in_ok-feed.feed c.read_from.new.feed c.args.rows.now c.read_from.new.rows
+    c.read_from.result c.in_ok-feed.ensures c.read_from.ensures.page

@@ -4,7 +4,7 @@ use Rattle.pbm_reader.specs.Left.{left_of}
 use Rattle.pbm_reader.specs.Page.{row_len}
 use Rattle.pbm_reader.specs.Raster.{BytesFail}
 use Rattle.pbm_reader.proofs.RowLoop.{no_rows, one_more_row, row_fails, all_rows, rows_stop}
-use Rattle.pbm_reader.proofs.raster.read_raster.Goals as goal
+use Rattle.pbm_reader.proofs.raster.read_raw_raster.Goals as goal
 
 pub returns-in_err-read_row-clause-fault : goal.returns-in_err-read_row-clause-fault
 returns-in_err-read_row-clause-fault g c =
@@ -15,7 +15,8 @@ returns-in_err-read_row-clause-fault g c =
     let new = left_of (g.S.Source.left c.read_row.new.src) c.read_row.new.feed in
     let P : ℕ → Type 0 = λ at. BytesFail middle new at (row_len size.width) c.in_err-read_row.field-0.0 in
     let fails : BytesFail middle new (c.args.header.len + c.loop-y._y * row_len size.width) (row_len size.width) c.in_err-read_row.field-0.0 = subst P c.loop-y.invariant.offset c.in_err-read_row.ensures.fault in
-    rw (p.1, p.2) (row_fails g.R.RowSink.given old middle new size.width size.height c.loop-y._y c.args.header.len c.args.rows.now c.loop-y.rows c.in_err-read_row.field-0.0 c.loop-y.invariant.giving (omega arith) fails)
+    rw (p.1, p.2) (row_fails g.R.RowSink.given old middle new size.width size.height c.loop-y._y c.args.header.len c.args.rows.now c.loop-y.rows c.in_err-read_row.field-0.0 c.loop-y.invariant.giving
+      (omega arith) c.requires.size c.requires.short fails)
 
 pub returns-in_err-row-clause-top : goal.returns-in_err-row-clause-top
 returns-in_err-row-clause-top g c =
@@ -54,4 +55,5 @@ returns-clause-ok g c =
     let size = c.args.header.size in
     let old = left_of (g.S.Source.left c.args.src.now) c.args.feed.now in
     let now = left_of (g.S.Source.left c.loop-y.src) c.loop-y.feed in
-    all_rows g.R.RowSink.given old now size.width size.height c.loop-y._y c.args.rows.now c.loop-y.rows c.loop-y.invariant.giving (omega arith)
+    all_rows g.R.RowSink.given old now size.width size.height c.loop-y._y c.args.header.len c.loop-y.at c.args.rows.now c.loop-y.rows c.loop-y.invariant.giving (omega arith)
+    c.requires.size c.requires.short c.loop-y.invariant.offset

@@ -1,0 +1,39 @@
+use Rattle.std.proofs.Common.{◌≡◌, ℕ, ◌+◌, ◌<◌, [], ◌∷◌, Option, Some, Result, Ok, Err, subst, arith}
+use Rattle.std.specs.Prelude.{IfSome, OnOk, IfErr}
+use Rattle.pbm_reader.specs.Spelling.{MayFollow}
+use Rattle.pbm_reader.specs.Left.{left_of, Took}
+use Rattle.pbm_reader.specs.Tail.{RestFails, TailFails, TookRest, TookTail}
+use Rattle.pbm_reader.proofs.TailLoop.{tail_taken, tail_fails}
+use Rattle.pbm_reader.proofs.tail.read_tail.Goals as goal
+
+some_of : (o : Option ℕ) (x : ℕ) (P : ℕ → Type 0) → o ≡ Some x → IfSome o P → P x
+some_of o x P e h = let Q : Option ℕ → Type 0 = λ k. IfSome k P in subst Q e h
+
+ok_map : {T E : Type 0} (r : Result T E) (P Q : Type 0) → (P → Q) → OnOk r P → OnOk r Q
+ok_map (Ok x) P Q f p = f p
+ok_map (Err e) P Q f p = p
+
+err_map : {T E : Type 0} (r : Result T E) (P Q : E → Type 0) → ((e : E) → P e → Q e) → IfErr r P → IfErr r Q
+err_map (Ok x) P Q f p = p
+err_map (Err e) P Q f p = f e p
+
+pub returns-clause-ok : goal.returns-clause-ok
+returns-clause-ok g c =
+    let old = left_of (g.S.Source.left c.args.src.now) c.args.feed.now in
+    let middle = left_of (g.S.Source.left c.next_byte.new.src) c.next_byte.new.feed in
+    let new = left_of (g.S.Source.left c.skip_rest.new.src) c.skip_rest.new.feed in
+    let took = some_of c.in_ok-byte.field-0 c.in-Some.byte (λ byte. Took old middle (byte ∷ [])) c.in-Some.is c.in_ok-byte.ensures.byte in
+    let follows : MayFollow c.args.form (c.in-Some.byte ∷ []) = c.may_follow.ensures.0 c.if-not-may_follow.false in
+    ok_map c.skip_rest.result (TookRest middle new (c.args.start + 1)) (TookTail old new c.args.form c.args.start)
+    (λ r. tail_taken old middle new c.args.form c.args.start c.in-Some.byte took follows r) c.skip_rest.ensures.ok
+
+pub returns-clause-fault : goal.returns-clause-fault
+returns-clause-fault g c =
+    let old = left_of (g.S.Source.left c.args.src.now) c.args.feed.now in
+    let middle = left_of (g.S.Source.left c.next_byte.new.src) c.next_byte.new.feed in
+    let new = left_of (g.S.Source.left c.skip_rest.new.src) c.skip_rest.new.feed in
+    let took = some_of c.in_ok-byte.field-0 c.in-Some.byte (λ byte. Took old middle (byte ∷ [])) c.in-Some.is c.in_ok-byte.ensures.byte in
+    let follows : MayFollow c.args.form (c.in-Some.byte ∷ []) = c.may_follow.ensures.0 c.if-not-may_follow.false in
+    let low : c.args.start < 268435456 = omega arith in
+    err_map c.skip_rest.result (RestFails middle new (c.args.start + 1)) (TailFails old new c.args.form c.args.start)
+    (λ e f. tail_fails old middle new c.args.form c.args.start c.in-Some.byte e took follows low f) c.skip_rest.ensures.fault
