@@ -108,7 +108,7 @@ def facts_of(element, place, count):
     kind = kind_of(element)
     facts = [NAMES.get(kind, element.hocr_class)]
     if kind == "white" and (number := re.search(r"_(\d+)$", element.id)):
-        facts[0] += f", found as number {int(number[1]) + 1}"
+        facts[0] += f", found after {number[1]} others"
     if place is not None:
         facts[0] += f", number {place} of {count} in the reading order"
     facts.append(f"box {box}: {box.width} by {box.height} pixels, {box.width * box.height:,} in all")
