@@ -1,5 +1,5 @@
 -- The digits of a number, as `parse` sees them.
-use Rattle.std.proofs.Common.{◌≡◌, ◌+◌, ◌<◌, ◌≤◌, ◌∙◌, ℕ, List, [], ◌∷◌, length, arith, refl, zero, suc, sym, subst, cond, ap, eqb-true, Bool, true, false, ◌==◌}
+use Rattle.std.proofs.Common.{◌≡◌, ◌+◌, ◌<◌, ◌≤◌, ◌∙◌, ℕ, [], ◌∷◌, length, arith, refl, suc, sym, subst, ap, eqb-true, Bool, true, false, ◌==◌}
 use Rattle.std.specs.List.{All}
 use Rattle.std.specs.Char.{digit_value}
 use Rattle.std.specs.Str.Parse.{AllDigits, IsNumeral, ParsesUnsigned, digits_value, without_leading_plus}

@@ -1,6 +1,6 @@
 -- `clap` finds exactly the items that the words spell.
-use Rattle.std.proofs.Common.{◌≡◌, ◌≢◌, ◌∙◌, ◌==◌, ◌&&◌, ◌||◌, ◌++◌, ◌⊎◌, ◌<◌, ◌≤◌, ◌+◌, ℕ, Bool, cond, true, false, not, zero, suc, refl, sym, ap, ap₂, subst, arith, List, [], ◌∷◌, map, fold, length, Option, Some, None, is_some, inl, inr, codes, true≢false, append_assoc, append-nil, length-append, ⊎_elim}
-use Rattle.std.specs.List.{All, AllPairs, list_any, slice_index_or, before_first, after_first}
+use Rattle.std.proofs.Common.{◌≡◌, ◌≢◌, ◌∙◌, ◌==◌, ◌||◌, ◌++◌, ◌<◌, ◌+◌, ℕ, Bool, true, false, zero, suc, refl, sym, ap, subst, arith, List, [], ◌∷◌, map, length, Option, Some, None, inl, inr, codes, true≢false, append_assoc, append-nil, length-append, ⊎_elim}
+use Rattle.std.specs.List.{All, AllPairs, list_any, slice_index_or, after_first}
 use Rattle.std.specs.Str.{bytes_eq}
 use Rattle.std.proofs.lemmas.List.Quantifiers.{all_pairs_push}
 use Rattle.std.proofs.lemmas.List.Elements.{All-cons}
@@ -8,15 +8,15 @@ use Rattle.std.proofs.Math.ListN.{get_or-append}
 use Rattle.std.proofs.Math.Seq.{get_or-append_seam}
 use Rattle.std.proofs.lemmas.List.Folds.{Any-from_list_any}
 use Rattle.clap.proofs.SimpleLemmas.{is_false}
-use Rattle.clap.specs.Lexer.{has_byte, name_and_value}
-use Rattle.clap.specs.Kinds.{Kinds, or_else}
-use Rattle.clap.specs.Walk.{Held, Row, Walk, reacted, settled, used, walked}
+use Rattle.clap.specs.Lexer.{has_byte}
+use Rattle.clap.specs.Kinds.{or_else}
+use Rattle.clap.specs.Walk.{Held, reacted, settled, used, walked}
 use Rattle.clap.specs.Faults.{settle_fault, turn_fault, use_fault, walk_fault}
 use Rattle.clap.specs.declared.error.kind.ErrorKind.TheVariants as kinds
 use Rattle.command_words.specs.Items.{Text, Item, SpellsItem, SpellsItems, begins_with_hyphen}
 use Rattle.command_words.specs.Strays.{is_stray}
-use Rattle.command_words.proofs.Walking.{at_item, at_value, expects, expecting_faults, faults_from, first_none, has_item, has_row_for, holds, is_known, is_new, is_option, long_word, missing_value, name_in, next_faults, next_rows, no_fault_here, or_else_none, read_items, ready, rows_for, rows_from, same_text, second_none, settle_faults, settles, shape_with, stray_value, text_is_itself, together_faults, together_walked, unknown_faults, use_faults, used_new, value_faults, value_of, value_walked, apart_faults, apart_walked}
-use Rattle.command_words.proofs.Reading.{IsLong, apart, at_sign, plain_or_long, together, whole_name}
+use Rattle.command_words.proofs.Walking.{at_item, at_value, expects, expecting_faults, faults_from, first_none, has_item, holds, is_known, is_new, is_option, long_word, missing_value, name_in, next_faults, no_fault_here, read_items, ready, rows_for, same_text, second_none, settle_faults, settles, shape_with, stray_value, text_is_itself, together_faults, together_walked, unknown_faults, use_faults, used_new, value_faults, value_of, value_walked, apart_faults, apart_walked}
+use Rattle.command_words.proofs.Reading.{IsLong, at_sign, plain_or_long, whole_name}
 
 -- no two items have one name
 abbrev pub AreOnce : List Item → Type 0
@@ -153,7 +153,7 @@ found_together names before last first rest words known once is_one sign found n
     let so_far = read_items before last in
     let here = no_fault_here names (at_item (holds before last)) (long_word first rest) words none in
     let parts : or_else (settle_fault (map ready names) false (holds before last)) (use_fault false (ready item.name) (item.value ∷ []) (settled (map ready names) (holds before last)).rows) ≡ []
-        = sym (together_faults names (holds before last) first rest item.value is_one given) ∙ here in
+    = sym (together_faults names (holds before last) first rest item.value is_one given) ∙ here in
     let new = new_where_settled names before last known (first_none _ _ parts) in
     let settles_to = settles names before last known new in
     let second : use_fault false (ready item.name) (item.value ∷ []) (settled (map ready names) (holds before last)).rows ≡ [] = second_none _ _ parts in
@@ -161,7 +161,7 @@ found_together names before last first rest words known once is_one sign found n
     let new_item = new_where_used so_far item unused in
     let once_so_far = once_where_new before last once new in
     let walks : walked (map ready names) [] (at_item (holds before last)) (long_word first rest) ≡ at_item (holds (so_far ++ item ∷ []) None)
-        = together_walked names (holds before last) first rest item.value is_one given ∙ ap at_item (reacts names before last item known new new_item) in
+    = together_walked names (holds before last) first rest item.value is_one given ∙ ap at_item (reacts names before last item known new new_item) in
     let later : faults_from names (at_item (holds (so_far ++ item ∷ []) None)) words ≡ [] = sym (next_faults names _ _ (long_word first rest) words here walks) ∙ none in
     with_item names so_far item (long_word first rest) words is_one
     (inl (ap (λ t. t ∷ []) (ap (λ t. 45 ∷ 45 ∷ t) (at_sign (first ∷ rest) sign) ∙ sym (append_assoc (codes "--" ++ item.name) (codes "=") item.value))))
@@ -184,7 +184,7 @@ found_apart names before last first rest words known once is_one sign found none
     let settle_none : settle_fault (map ready names) false (holds before last) ≡ [] = first_none _ _ (sym (apart_faults names (holds before last) first rest is_one given) ∙ here) in
     let new = new_where_settled names before last known settle_none in
     let walks : walked (map ready names) [] (at_item (holds before last)) (long_word first rest) ≡ at_value name (expects so_far name)
-        = apart_walked names (holds before last) first rest is_one given ∙ ap (at_value name) (expecting names before last name known new) in
+    = apart_walked names (holds before last) first rest is_one given ∙ ap (at_value name) (expecting names before last name known new) in
     let later : faults_from names (at_value name (expects so_far name)) words ≡ [] = sym (next_faults names _ _ (long_word first rest) words here walks) ∙ none in
     with_two_words names so_far name (long_word first rest) words is_one
     (ap (λ t. 45 ∷ 45 ∷ t) (sym (whole_name (first ∷ rest) sign)))
@@ -199,7 +199,7 @@ found_long names before last first rest words known once found none = go (is_opt
     go : (b : Bool) → is_option names (name_in first rest) ≡ b → (s : Bool) → has_byte 61 (first ∷ rest) ≡ s → GoesOn names (read_items before last) (long_word first rest ∷ words)
     go false unknown s sign =
         let bad : kinds.UnknownArgument ∷ [] ≡ []
-            = sym (unknown_faults names (holds before last) first rest unknown) ∙ no_fault_here names (at_item (holds before last)) (long_word first rest) words none in
+        = sym (unknown_faults names (holds before last) first rest unknown) ∙ no_fault_here names (at_item (holds before last)) (long_word first rest) words none in
         absurd (cc)
     go true is_one true sign = found_together names before last first rest words known once is_one sign found none
     go true is_one false sign = found_apart names before last first rest words known once is_one sign found none
@@ -208,7 +208,7 @@ found_more : (names : List Text) (word : Text) (words : List Text) → is_stray 
 found_more names word words fine found = record {
   at_item_is = λ before last known once none. ⊎_elim
       (λ plain. let bad : kinds.UnknownArgument ∷ [] ≡ []
-          = sym (stray_value names (holds before last) word plain) ∙ no_fault_here names (at_item (holds before last)) word words none in
+      = sym (stray_value names (holds before last) word plain) ∙ no_fault_here names (at_item (holds before last)) word words none in
       absurd (cc))
       (λ (long : IsLong word). subst (λ w. faults_from names (at_item (holds before last)) (w ∷ words) ≡ [] → GoesOn names (read_items before last) (w ∷ words)) (sym long.is)
       (found_long names before last long.first long.rest words known once found) none)

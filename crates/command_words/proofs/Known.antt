@@ -1,5 +1,5 @@
 -- The options of the two programs, and the items of words that are theirs.
-use Rattle.std.proofs.Common.{◌≡◌, ◌≢◌, Option, option_map, map, subst, ◌∙◌, ◌||◌, ◌<◌, ℕ, Bool, true, false, zero, suc, refl, sym, ap, arith, List, [], ◌∷◌, length, true≢false, ⊎_elim}
+use Rattle.std.proofs.Common.{◌≡◌, ◌≢◌, Option, option_map, map, subst, ◌∙◌, ◌<◌, ℕ, Bool, true, false, zero, suc, refl, sym, ap, arith, List, [], ◌∷◌, length, ⊎_elim}
 use Rattle.std.specs.List.{All, Any, Contains, list_all, list_any, slice_index_or}
 use Rattle.std.proofs.lemmas.List.Folds.{Any-from_list_any, list_any-from_Any}
 use Rattle.std.specs.Str.{bytes_eq}
@@ -20,7 +20,7 @@ use Rattle.command_words.specs.declared.plan.WordFault.TheVariants.{Memory, Usag
 use Rattle.clap.specs.Faults.{is_simple_and_free}
 use Rattle.command_words.specs.Items.{Text, Item}
 use Rattle.command_words.specs.Strays.{is_stray}
-use Rattle.command_words.specs.Commands.{app_for, app_with}
+use Rattle.command_words.specs.Commands.{app_for}
 use Rattle.command_words.specs.Plans.{HasItems, options_of, value_in}
 use Rattle.command_words.specs.declared.plan.Program.{Program}
 use Rattle.command_words.specs.declared.plan.Program.TheVariants.{Alone, Shared}

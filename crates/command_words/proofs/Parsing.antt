@@ -1,19 +1,18 @@
 -- `clap`'s parse as a whole: what it finds, and when it has a fault to tell.
-use Rattle.std.proofs.Common.{◌≡◌, ◌≢◌, ◌∙◌, ◌==◌, ◌&&◌, ◌||◌, ◌++◌, ◌⊎◌, ◌<◌, ◌≤◌, ◌+◌, ℕ, Bool, cond, true, false, not, zero, suc, refl, sym, ap, ap₂, subst, arith, List, [], ◌∷◌, map, fold, length, Option, Some, None, is_some, inl, inr, codes, true≢false, option_map, append_assoc, append-nil, ⊎_elim}
+use Rattle.std.proofs.Common.{◌≡◌, ◌∙◌, ◌&&◌, ◌||◌, ◌++◌, ℕ, Bool, cond, true, false, not, suc, refl, sym, ap, ap₂, subst, arith, List, [], ◌∷◌, map, fold, None, codes, true≢false, option_map, append_assoc, append-nil, ⊎_elim}
 use Rattle.std.specs.Prelude.{slice_get, unwrap_or}
-use Rattle.std.specs.List.{All, AllPairs, find, list_all, list_any, slice_index_or}
+use Rattle.std.specs.List.{All, find, list_all, list_any}
 use Rattle.std.specs.Str.{bytes_eq}
 use Rattle.clap.specs.Kinds.{Kinds, or_else}
-use Rattle.clap.specs.Walk.{Held, Row, Rule, Walk, first_of, has_row, nothing_held, rows_after, settled, walk, walk_from, walked, with_default}
+use Rattle.clap.specs.Walk.{Row, first_of, has_row, nothing_held, rows_after, settled, walk, walk_from, with_default}
 use Rattle.clap.specs.Faults.{built_fault, check_fault, default_fault, defaults_fault, fault_of, level_fault, settle_fault, walk_fault}
 use Rattle.clap.specs.Takes.{is_given}
-use Rattle.clap.specs.Simple.{App, Shape, built, filled_from, matches_of, names_of}
+use Rattle.clap.specs.Simple.{App, built, filled_from, matches_of, names_of}
 use Rattle.clap.proofs.FaultLemmas.{leaf_fault}
-use Rattle.clap.proofs.SimpleLemmas.{is_false}
 use Rattle.command_words.specs.Commands.{app_with, option_rule}
 use Rattle.command_words.specs.Items.{Text, Item, SpellsItem, SpellsItems, begins_with_hyphen}
 use Rattle.command_words.specs.Strays.{is_stray}
-use Rattle.command_words.proofs.Walking.{at_item, faults_from, holds, is_option, or_else_none, ready, row_for, rows_for, rows_from, shape_with}
+use Rattle.command_words.proofs.Walking.{at_item, faults_from, holds, is_option, or_else_none, ready, rows_for, rows_from, shape_with}
 use Rattle.command_words.proofs.Reading.{is_name}
 use Rattle.command_words.proofs.Finding.{AreOnce, items_found}
 use Rattle.command_words.proofs.Telling.{items_told, name_of_option}
@@ -56,7 +55,7 @@ level_is : (names : List Text) (words : List Text) → level_fault (shape_with n
 level_is names words =
     let end = (walk (map ready names) [] nothing_held words).held in
     let rest : or_else (settle_fault (map ready names) false end) (or_else (defaults_fault (settled (map ready names) end).rows (map ready names)) (check_fault (shape_with names) (fold with_default (settled (map ready names) end).rows (map ready names)) false)) ≡ settle_fault (map ready names) false end
-        = rw (defaults_fine names (settled (map ready names) end).rows, check_fine names (fold with_default (settled (map ready names) end).rows (map ready names))) (or_else_none _) in
+    = rw (defaults_fine names (settled (map ready names) end).rows, check_fine names (fold with_default (settled (map ready names) end).rows (map ready names))) (or_else_none _) in
     ap (or_else (walk_fault (shape_with names) [] (walk_from nothing_held) words)) rest
 
 -- building completes each option, and adds nothing

@@ -1,16 +1,10 @@
 -- `clap` finds exactly the items that the words spell.
-use Rattle.std.proofs.Common.{◌≡◌, ◌≢◌, ◌∙◌, ◌==◌, ◌&&◌, ◌||◌, ◌++◌, ◌⊎◌, ◌<◌, ◌≤◌, ◌+◌, ℕ, Bool, cond, true, false, not, zero, suc, refl, sym, ap, ap₂, subst, arith, List, [], ◌∷◌, map, fold, length, Option, Some, None, is_some, eqb-true, inl, inr, codes, true≢false, append_assoc, append-nil, take, drop}
-use Rattle.std.specs.List.{All, AllPairs, Contains, list_any, list_all, find, slice_index_or, before_first, after_first, position_or_len}
-use Rattle.std.specs.Str.{bytes_eq}
-use Rattle.std.proofs.lemmas.List.Quantifiers.{all_pairs_push}
-use Rattle.std.proofs.lemmas.List.Elements.{All-append}
+use Rattle.std.proofs.Common.{◌≡◌, ◌∙◌, ◌==◌, ◌||◌, ◌++◌, ◌⊎◌, ◌+◌, ℕ, Bool, true, false, not, suc, refl, sym, ap, ap₂, arith, [], ◌∷◌, Some, None, eqb-true, inl, inr, true≢false, take, drop}
+use Rattle.std.specs.List.{before_first, after_first, position_or_len}
 use Rattle.clap.specs.Lexer.{has_byte, name_and_value}
-use Rattle.clap.specs.Kinds.{Kinds, or_else}
-use Rattle.clap.specs.Walk.{Held, Row, Walk, settled}
-use Rattle.clap.specs.Faults.{settle_fault, turn_fault, use_fault}
-use Rattle.command_words.specs.Items.{Text, Item, SpellsItem, SpellsItems, begins_with_hyphen}
+use Rattle.command_words.specs.Items.{Text, begins_with_hyphen}
 use Rattle.command_words.specs.Strays.{is_stray}
-use Rattle.command_words.proofs.Walking.{at_item, at_value, expects, expecting_faults, faults_from, first_none, has_item, has_row_for, holds, is_known, is_new, is_option, long_word, missing_value, name_in, next_faults, next_rows, no_fault_here, or_else_none, read_items, ready, rows_for, rows_from, same_text, second_none, settle_faults, settles, shape_with, stray_value, text_is_itself, together_faults, together_walked, unknown_faults, use_faults, used_new, value_faults, value_of, value_walked, apart_faults, apart_walked}
+use Rattle.command_words.proofs.Walking.{long_word}
 
 -- ---- words of options
 
@@ -106,6 +100,7 @@ plain_or_long (x ∷ xs) fine = go (x == 45) refl xs fine
         again : (b : Bool) → (y == 45) ≡ b → IsLong (x ∷ y ∷ z ∷ zs)
         again true second = record { first = z; rest = zs; is = ap₂ (λ a b. a ∷ b ∷ z ∷ zs) is (eqb-true y 45 second) }
         again false second = absurd (true≢false (rw (is, second) at fine))
+
     go : (b : Bool) → (x == 45) ≡ b → (xs : Text) → is_stray (x ∷ xs) ≡ false → (begins_with_hyphen (x ∷ xs) ≡ false) ⊎ IsLong (x ∷ xs)
     go true is xs fine = inr (after x (eqb-true x 45 is) xs fine)
     go false is xs fine = inl is

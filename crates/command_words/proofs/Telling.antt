@@ -1,18 +1,18 @@
 -- Where the words spell items, `clap` has no fault to tell, and finds just these items.
-use Rattle.std.proofs.Common.{◌≡◌, ◌≢◌, ◌∙◌, ◌==◌, ◌&&◌, ◌||◌, ◌++◌, ◌⊎◌, ◌<◌, ◌≤◌, ◌+◌, ℕ, Bool, cond, true, false, not, zero, suc, refl, sym, ap, ap₂, subst, arith, List, [], ◌∷◌, map, fold, length, Option, Some, None, is_some, inl, inr, codes, true≢false, append_assoc, append-nil, ⊎_elim}
-use Rattle.std.specs.List.{All, AllPairs, list_all, list_any, slice_index_or, before_first, after_first}
+use Rattle.std.proofs.Common.{◌≡◌, ◌∙◌, ◌++◌, ℕ, Bool, cond, true, false, not, suc, refl, sym, ap, ap₂, subst, arith, List, [], ◌∷◌, map, Option, Some, None, codes, true≢false, append_assoc, append-nil, ⊎_elim}
+use Rattle.std.specs.List.{All, list_all}
 use Rattle.std.specs.Str.{bytes_eq}
 use Rattle.clap.specs.Lexer.{has_byte, name_and_value}
-use Rattle.clap.specs.Kinds.{Kinds, or_else}
-use Rattle.clap.specs.Walk.{Held, Row, Walk, reacted, settled, used, walked}
+use Rattle.clap.specs.Kinds.{or_else}
+use Rattle.clap.specs.Walk.{Held, Walk, reacted, settled, walked}
 use Rattle.clap.specs.Faults.{settle_fault, turn_fault, use_fault, walk_fault}
 use Rattle.clap.specs.declared.error.kind.ErrorKind.TheVariants as kinds
 use Rattle.clap.proofs.SimpleLemmas.{is_false}
 use Rattle.clap.proofs.WalkLemmas.{both}
 use Rattle.command_words.specs.Items.{Text, Item, SpellsItem, SpellsItems, begins_with_hyphen}
-use Rattle.command_words.proofs.Walking.{at_item, at_value, expects, expecting_faults, faults_from, first_none, has_item, has_row_for, holds, is_known, is_new, is_option, long_word, missing_value, name_in, next_faults, next_rows, no_fault_here, or_else_none, read_items, ready, rows_for, rows_from, same_text, second_none, settle_faults, settles, shape_with, stray_value, text_is_itself, together_faults, together_walked, unknown_faults, use_faults, used_new, value_faults, value_of, value_walked, apart_faults, apart_walked}
+use Rattle.command_words.proofs.Walking.{at_item, at_value, expects, faults_from, holds, is_known, is_new, is_option, long_word, name_in, next_faults, next_rows, or_else_none, read_items, ready, rows_for, rows_from, same_text, settle_faults, settles, shape_with, together_faults, together_walked, use_faults, value_faults, value_of, value_walked, apart_faults, apart_walked}
 use Rattle.command_words.proofs.Reading.{apart, is_name, together}
-use Rattle.command_words.proofs.Finding.{AreOnce, both_false, expecting, new_from_once, front_once, once_more, once_where_new, reacts}
+use Rattle.command_words.proofs.Finding.{AreOnce, expecting, new_from_once, front_once, reacts}
 
 -- the name of an option is a name
 pub name_of_option : (names : List Text) (name : Text) → list_all is_name names ≡ true → is_option names name ≡ true → is_name name ≡ true
@@ -71,8 +71,8 @@ tells_together names before last first rest value words items whole known is_one
     let new = new_last before last once_so_far in
     let new_item = new_from_once so_far item [] once in
     let used_well : use_fault false (ready item.name) (value ∷ []) (settled (map ready names) held).rows ≡ []
-        = ap (λ (h : Held). use_fault false (ready item.name) (value ∷ []) h.rows) (settles names before last known new)
-        ∙ use_faults so_far item ∙ ap (λ b. cond b (kinds.ArgumentConflict ∷ []) []) new_item in
+    = ap (λ (h : Held). use_fault false (ready item.name) (value ∷ []) h.rows) (settles names before last known new)
+    ∙ use_faults so_far item ∙ ap (λ b. cond b (kinds.ArgumentConflict ∷ []) []) new_item in
     tells_next names (at_item held) (at_item (holds (so_far ++ item ∷ []) None)) (long_word first (rest ++ 61 ∷ value)) words items
     (together_faults names held first (rest ++ 61 ∷ value) value is_two given
     ∙ ap₂ or_else (settles_well names before last known once_so_far)
@@ -164,4 +164,3 @@ pub items_told : (names : List Text) → list_all is_name names ≡ true → (it
     → All (λ item. is_option names item.name ≡ true) items → AreOnce items → SpellsItems items words
     → Tells names (at_item (holds [] None)) words items
 items_told names all items words are once spelled = tells_items names all items words [] None refl are once spelled
-

@@ -1,10 +1,10 @@
 -- What `clap` makes of one word, where the command has options with one value and nothing else.
-use Rattle.std.proofs.Common.{◌≡◌, ◌∙◌, ◌==◌, ◌&&◌, ◌||◌, ◌++◌, ◌⊎◌, ℕ, Bool, cond, true, false, not, zero, suc, refl, sym, ap, ap₂, subst, arith, List, [], ◌∷◌, map, fold, length, Option, Some, None, is_some, eqb-true, inl, inr, codes, true≢false, ◌≢◌}
-use Rattle.std.specs.List.{list_any, list_all, find}
+use Rattle.std.proofs.Common.{◌≡◌, ◌∙◌, ◌&&◌, ◌||◌, ◌++◌, ℕ, Bool, cond, true, false, not, refl, sym, ap, ap₂, List, [], ◌∷◌, map, fold, Option, Some, None, codes, true≢false, ◌≢◌}
+use Rattle.std.specs.List.{list_any}
 use Rattle.std.specs.Str.{bytes_eq}
-use Rattle.clap.specs.Lexer.{has_byte, long_of, name_and_value, short_of}
+use Rattle.clap.specs.Lexer.{long_of, name_and_value, short_of}
 use Rattle.clap.specs.Kinds.{Kinds, or_else}
-use Rattle.clap.specs.Walk.{Held, Row, Rule, Walk, Waiting, arg_by_id, arg_by_index, arg_by_long, has_row, idle, option, reacted, settled, used, walked, with_values, without}
+use Rattle.clap.specs.Walk.{Held, Row, Rule, Walk, arg_by_id, arg_by_index, arg_by_long, has_row, idle, option, reacted, settled, used, walked, with_values, without}
 use Rattle.clap.proofs.SimpleLemmas.{is_false}
 use Rattle.clap.specs.Simple.{Shape, new_rule, new_shape}
 use Rattle.clap.specs.Faults.{settle_fault, turn_fault, use_fault, walk_fault}

@@ -1,9 +1,9 @@
 -- The plan of a list of words.
-use Rattle.std.specs.Prelude.{◌≡◌, ◌≢◌, ℕ, Bool, List, [], ◌∷◌, codes, map, Option, None, MatchOption, find, option_map, AllPairs}
+use Rattle.std.specs.Prelude.{◌≡◌, ◌≢◌, ℕ, List, [], ◌∷◌, codes, Option, None, find, option_map, AllPairs}
 use Rattle.std.specs.List.{All, Contains}
 use Rattle.std.specs.Str.{bytes_eq}
 use Rattle.command_words.specs.Items.{Text, Item, SpellsItems}
-use Rattle.command_words.specs.Values.{IsNumberOf, IsImageName}
+use Rattle.command_words.specs.Values.{IsNumberOf, IsImageOf}
 use Rattle.command_words.specs.declared.plan.Program.{Program}
 use Rattle.command_words.specs.declared.plan.Program.TheVariants.{Alone, Shared}
 use Rattle.command_words.specs.declared.plan.Plan.{Plan}
@@ -28,10 +28,6 @@ abbrev pub usual_workers : Program → ℕ
 usual_workers Alone = 1
 usual_workers Shared = 4
 
--- The name is what the value of an option is, and empty where the option is not given.
-abbrev pub IsImageOf : Option Text → Text → Type 0
-IsImageOf value name = MatchOption value (name ≡ []) (λ text. IsImageName text × (name ≡ text))
-
 -- The words are items whose values tell the plan.
 pub record HasPlan (program : Program) (words : List Text) (plan : Plan) : Type 0 where
   pub items : List Item
@@ -40,3 +36,7 @@ pub record HasPlan (program : Program) (words : List Text) (plan : Plan) : Type 
   pub rects : IsNumberOf (value_in items (codes "rects")) 32 1 256 plan.rects
   pub image : IsImageOf (value_in items (codes "image")) plan.image
   pub make : plan.make ≡ None
+
+-- The words have no plan.
+abbrev pub HasNoPlan : Program → List Text → Type 0
+HasNoPlan program words = (plan : Plan) → ¬ HasPlan program words plan

@@ -1,5 +1,5 @@
 -- Words that stand in no plan, though `clap` may take them.
-use Rattle.std.specs.Prelude.{◌==◌, ◌&&◌, ◌||◌, not, Bool, false, true, List, [], ◌∷◌, if◌then◌else◌}
+use Rattle.std.specs.Prelude.{◌==◌, ◌&&◌, not, Bool, false, true, [], ◌∷◌}
 use Rattle.command_words.specs.Items.{Text}
 
 abbrev after_hyphen : Text → Bool

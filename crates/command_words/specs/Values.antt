@@ -1,5 +1,5 @@
 -- What the values of options mean.
-use Rattle.std.specs.Prelude.{◌≡◌, ◌≢◌, ◌≤◌, ℕ, Option, MatchOption, length}
+use Rattle.std.specs.Prelude.{◌≡◌, ◌≢◌, ◌≤◌, ℕ, [], Option, MatchOption, length}
 use Rattle.std.specs.List.{All}
 use Rattle.std.specs.Str.Parse.{digits_value}
 use Rattle.command_words.specs.Items.{Text}
@@ -41,3 +41,7 @@ pub record IsImageName (text : Text) : Type 0 where
   pub some : 1 ≤ length text
   pub short : length text ≤ 255
   pub bytes : All IsNameByte text
+
+-- The name is what the value of an option is, and empty where the option is not given.
+abbrev pub IsImageOf : Option Text → Text → Type 0
+IsImageOf value name = MatchOption value (name ≡ []) (λ text. IsImageName text × (name ≡ text))

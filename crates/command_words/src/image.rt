@@ -1,8 +1,7 @@
 //! The image's name.
-ghost use Rattle.std.specs.Prelude.{◌≡◌, ◌↔◌, IsTrue, List, ℕ, IfOk, IfErr};
+ghost use Rattle.std.specs.Prelude.{◌≡◌, ◌↔◌, ◌≤◌, IsTrue, List, ℕ, All, IfOk, IfErr, length};
 ghost use Rattle.command_words.specs.Givens.{text_of};
-ghost use Rattle.command_words.specs.Plans.{IsImageOf};
-ghost use Rattle.command_words.specs.Values.{IsNameByte, IsImageName};
+ghost use Rattle.command_words.specs.Values.{IsNameByte, IsImageName, IsImageOf};
 
 use crate::plan::WordFault;
 use layout_geom::Name;
@@ -30,6 +29,7 @@ fn is_image_name(text: &str) -> bool
 /// The image's name: the value of its option, and the empty name where that is not given.
 pub fn image_or_none(alloc: Global, text: Option<&str>) -> Result<Name, WordFault>
     ensures name { IfOk result (IsImageOf (text_of text.entry)) }
+    ensures letters { IfOk result (λ name. (length name ≤ 255) × All IsNameByte name) }
     ensures usage { IfErr result (λ fault. fault ≡ WordFault.Usage → (name : List ℕ) → ¬ IsImageOf (text_of text.entry) name) }
 {
     let Some(text) = text else {

@@ -29,7 +29,9 @@ fn number_of(text: &str) -> Option<u64>
 
 /// The number of an option: from 1 to `most` where it is given, and else the usual one.
 pub fn number_or(text: Option<&str>, usual: u16, most: u16) -> Result<u16, WordFault>
+    requires usual { (1 ≤ usual) × (usual ≤ most) }
     ensures number { IfOk result (IsNumberOf (text_of text.entry) usual 1 most) }
+    ensures within { IfOk result (λ n. (1 ≤ n) × (n ≤ most)) }
     ensures usage { IfErr result (λ fault. (fault ≡ WordFault.Usage) × ((n : ℕ) → ¬ IsNumberOf (text_of text.entry) usual 1 most n)) }
 {
     let Some(text) = text else {

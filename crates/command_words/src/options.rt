@@ -69,6 +69,7 @@ fn command<'a>(alloc: Global, program: Program) -> Result<Command<'a>, AllocErro
 /// The fault of the words, by the kind of `clap`'s error.
 fn fault_of_kind(kind: ErrorKind) -> WordFault
     ensures memory { kind ≡ ErrorKind.OutOfMemory → result ≡ WordFault.Memory }
+    ensures usage { kind ≢ ErrorKind.OutOfMemory → result ≡ WordFault.Usage }
 {
     match kind {
         ErrorKind::OutOfMemory => WordFault::Memory,

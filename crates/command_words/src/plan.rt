@@ -4,7 +4,7 @@ use std::alloc::AllocError;
 
 /// The program whose words they are: `layout1`, which works on one thread, or `layout`, which
 /// shares the work among several.
-#[derive(Clone, Copy)]
+#[derive(Debug, Clone, Copy, PartialEq, Eq, Drop)]
 pub enum Program {
     /// `layout1`.
     Alone,
@@ -27,7 +27,7 @@ pub struct Plan {
 }
 
 /// Why words have no answer.
-#[derive(Clone, Copy, Debug, PartialEq, Eq)]
+#[derive(Debug, Clone, Copy, PartialEq, Eq, Drop)]
 pub enum WordFault {
     /// The words have no plan.
     Usage,

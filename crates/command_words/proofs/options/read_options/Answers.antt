@@ -1,5 +1,4 @@
-use Rattle.std.proofs.Common.{◌≡◌, ◌∙◌, sym, true≢false, subst, codes}
-use Rattle.std.specs.Bool.{IsTrue}
+use Rattle.std.proofs.Common.{◌∙◌, sym, true≢false, codes}
 use Rattle.clap.proofs.TakesLemmas.{passed_up}
 use Rattle.command_words.proofs.Known.{items_unrefused, items_unstray, items_parsed, parsed_words, value_given, some_stray, none_stray}
 use Rattle.command_words.proofs.options.read_options.Goals as goal
