@@ -1,0 +1,8 @@
+pub mod Walking
+pub mod Reading
+pub mod Finding
+pub mod Telling
+pub mod Parsing
+pub mod Known
+pub mod Deciding
+pub mod Digits

@@ -1,0 +1,25 @@
+use Rattle.std.proofs.Common.{◌∙◌, sym, true≢false, codes}
+use Rattle.clap.proofs.TakesLemmas.{passed_up}
+use Rattle.command_words.proofs.Known.{items_unrefused, items_unstray, items_parsed, parsed_words, value_given, some_stray, none_stray}
+use Rattle.command_words.proofs.options.read_options.Goals as goal
+
+pub returns-then-has_stray-clause-usage : goal.returns-then-has_stray-clause-usage
+returns-then-has_stray-clause-usage c = λ is items has.
+    true≢false (sym (some_stray _ c.args.words.now (c.has_stray.ensures.stray.0 c.if-has_stray.true)) ∙ items_unstray c.args.program _ items has)
+
+pub returns-in_err-matches-clause-usage : goal.returns-in_err-matches-clause-usage
+returns-in_err-matches-clause-usage c =
+    passed_up _ _ _ c.from_residual.ensures.1 (λ is items has. c.in_err-matches.ensures.refused is (items_unrefused c.args.program _ items has))
+
+pub returns-clause-values : goal.returns-clause-values
+returns-clause-values c =
+    let found = c.in_ok-matches.ensures.found in
+    let fine = none_stray _ c.args.words.now (λ any. true≢false (sym (c.has_stray.ensures.stray.1 any) ∙ c.if-has_stray.false)) in
+    let p = parsed_words c.args.program _ fine found.0 in
+    record {
+      items = p.items;
+      spelled = items_parsed c.args.program _ p;
+      workers = value_given c.args.program _ p c.in_ok-matches.matches (codes "workers") c.get_str.result found.1 c.get_str.ensures;
+      rects = value_given c.args.program _ p c.in_ok-matches.matches (codes "rects") c.get_str-2.result found.1 c.get_str-2.ensures;
+      image = value_given c.args.program _ p c.in_ok-matches.matches (codes "image") c.get_str-3.result found.1 c.get_str-3.ensures;
+    }

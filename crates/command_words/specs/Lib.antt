@@ -1,0 +1,6 @@
+pub mod Items
+pub mod Values
+pub mod Plans
+pub mod Strays
+pub mod Commands
+pub mod Givens

@@ -1,0 +1,15 @@
+//! The words of the command line: which plan they have, and when they have none.
+#![tactic(auto)]
+
+mod image;
+mod law;
+mod number;
+mod options;
+mod plan;
+#[cfg(test)]
+mod tests;
+mod words;
+
+pub use law::words_have_one_plan;
+pub use plan::{Plan, Program, WordFault};
+pub use words::words_of;

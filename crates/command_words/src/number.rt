@@ -1,0 +1,44 @@
+//! Numbers of the command line: digits and nothing else.
+ghost use Rattle.std.specs.Prelude.{◌≡◌, ◌<◌, ◌≤◌, ◌^◌, ◌↔◌, ℕ, IfOk, IfErr, IfSome, IfNone, IsTrue, length};
+ghost use Rattle.std.specs.List.{All};
+ghost use Rattle.command_words.specs.Givens.{text_of};
+ghost use Rattle.command_words.specs.Values.{IsDigit, IsNumberOf, SpellsNumber};
+
+use crate::plan::WordFault;
+
+/// The most digits of a number. Zeros in front count.
+const MOST_DIGITS: usize = 20;
+
+/// Whether a text has at most 20 bytes, and each is a digit.
+fn is_short_numeral(text: &str) -> bool
+    ensures short { IsTrue result ↔ ((length text.now ≤ 20) × All IsDigit text.now) }
+{
+    text.len() <= MOST_DIGITS && text.bytes().all(|byte| byte.is_ascii_digit())
+}
+
+/// The number that a text of 1 to 20 digits spells, where a `u64` holds it.
+fn number_of(text: &str) -> Option<u64>
+    ensures number { IfSome result (SpellsNumber text.now) }
+    ensures none { IfNone result ((n : ℕ) → SpellsNumber text.now n → ¬ (n < 2 ^ 64)) }
+{
+    if !is_short_numeral(text) {
+        return None;
+    }
+    text.parse::<u64>().ok()
+}
+
+/// The number of an option: from 1 to `most` where it is given, and else the usual one.
+pub fn number_or(text: Option<&str>, usual: u16, most: u16) -> Result<u16, WordFault>
+    requires usual { (1 ≤ usual) × (usual ≤ most) }
+    ensures number { IfOk result (IsNumberOf (text_of text.entry) usual 1 most) }
+    ensures within { IfOk result (λ n. (1 ≤ n) × (n ≤ most)) }
+    ensures usage { IfErr result (λ fault. (fault ≡ WordFault.Usage) × ((n : ℕ) → ¬ IsNumberOf (text_of text.entry) usual 1 most n)) }
+{
+    let Some(text) = text else {
+        return Ok(usual);
+    };
+    match number_of(text) {
+        Some(number) if 1 <= number && number <= u64::from(most) => Ok(number as u16),
+        _ => Err(WordFault::Usage),
+    }
+}

@@ -1,0 +1,128 @@
+//! The options of the command line as they are written, read by `clap`.
+ghost use Rattle.std.specs.Prelude.{◌≡◌, ◌≢◌, IfOk, IfErr, List, [], map, string_bytes, true, IsTrue, ◌↔◌};
+ghost use Rattle.std.specs.List.{Any};
+ghost use Rattle.clap.specs.Words.{app_of, fault_of, found_of, kind_of, matches_of, rows_of, with_rule};
+ghost use Rattle.command_words.specs.Items.{Item};
+ghost use Rattle.command_words.specs.Plans.{HasItems};
+ghost use Rattle.command_words.specs.Givens.{HasValues};
+ghost use Rattle.command_words.specs.Commands.{app_for, app_with, option_rule};
+ghost use Rattle.command_words.specs.Strays.{is_stray};
+
+use crate::plan::{Program, WordFault};
+use clap::error::ErrorKind;
+use clap::{Arg, ArgMatches, Command};
+use std::alloc::{AllocError, Global};
+
+/// The values of the options as they are written, each where its option is given.
+#[derive(Clone, Copy)]
+pub struct Given<'a> {
+    pub workers: Option<&'a str>,
+    pub rects: Option<&'a str>,
+    pub image: Option<&'a str>,
+}
+
+/// Whether a word begins with one hyphen and no second, or is two hyphens and no more. `clap` gives
+/// such words a meaning, and a plan has none of them.
+fn is_stray_word(word: &str) -> bool
+    ensures stray { IsTrue result ↔ (is_stray word.now ≡ true) }
+{
+    match word.as_bytes() {
+        [b'-', b'-', rest @ ..] => rest.is_empty(),
+        [b'-', ..] => true,
+        _ => false,
+    }
+}
+
+/// The command without an option, without help and without a word for the program.
+fn bare_command<'a>(alloc: Global) -> Command<'a>
+    ensures app { app_of result ≡ app_with [] }
+{
+    Command::new(alloc, "layout")
+        .no_binary_name(true)
+        .disable_help_flag(true)
+}
+
+/// The command with one more option, which takes a value.
+fn with_option<'a>(
+    alloc: Global,
+    command: Command<'a>,
+    name: &'a str,
+) -> Result<Command<'a>, AllocError>
+    ensures app { IfOk result (λ more. app_of more ≡ with_rule (app_of command.entry) (option_rule name.entry.now)) }
+{
+    command.arg(Arg::new(alloc, name).long(name))
+}
+
+/// The command with the options of the program.
+fn command<'a>(alloc: Global, program: Program) -> Result<Command<'a>, AllocError>
+    ensures app { IfOk result (λ command. app_of command ≡ app_for program) }
+{
+    let bare = bare_command(alloc);
+    let first = match program {
+        Program::Alone => bare,
+        Program::Shared => with_option(alloc, bare, "workers")?,
+    };
+    let second = with_option(alloc, first, "rects")?;
+    with_option(alloc, second, "image")
+}
+
+/// The fault of the words, by the kind of `clap`'s error.
+fn fault_of_kind(kind: ErrorKind) -> WordFault
+    ensures memory { kind ≡ ErrorKind.OutOfMemory → result ≡ WordFault.Memory }
+    ensures usage { kind ≢ ErrorKind.OutOfMemory → result ≡ WordFault.Usage }
+{
+    match kind {
+        ErrorKind::OutOfMemory => WordFault::Memory,
+        _ => WordFault::Usage,
+    }
+}
+
+/// What `clap` makes of the words.
+fn matches_of_words<'a>(
+    alloc: Global,
+    words: &'a [String],
+    program: Program,
+) -> Result<ArgMatches<'a>, WordFault>
+    ensures found { IfOk result (λ matches. (fault_of (app_for program) (map string_bytes words.now) ≡ [])
+        × (rows_of (found_of matches) ≡ matches_of (app_for program) (map string_bytes words.now))) }
+    ensures refused { IfErr result (λ fault. fault ≡ WordFault.Usage
+        → fault_of (app_for program) (map string_bytes words.now) ≢ []) }
+{
+    match command(alloc, program)?.try_get_matches_from(words) {
+        Ok(matches) => Ok(matches),
+        Err(error) => Err(fault_of_kind(error.kind())),
+    }
+}
+
+/// Whether one of the words stands in no plan, though `clap` may take it.
+fn has_stray(words: &[String]) -> bool
+    ensures stray { IsTrue result ↔ Any (λ word. is_stray (string_bytes word) ≡ true) words.now }
+{
+    for word in words {
+        if is_stray_word(word.as_str()) {
+            return true;
+        }
+    }
+    false
+}
+
+/// The values of the options, where the words are options of the program with a value each.
+pub fn read_options<'a>(
+    alloc: Global,
+    words: &'a [String],
+    program: Program,
+) -> Result<Given<'a>, WordFault>
+    ensures values { IfOk result (HasValues program (map string_bytes words.now)) }
+    ensures usage { IfErr result (λ fault. fault ≡ WordFault.Usage
+        → (items : List Item) → ¬ HasItems program (map string_bytes words.now) items) }
+{
+    if has_stray(words) {
+        return Err(WordFault::Usage);
+    }
+    let matches = matches_of_words(alloc, words, program)?;
+    Ok(Given {
+        workers: matches.get_str("workers"),
+        rects: matches.get_str("rects"),
+        image: matches.get_str("image"),
+    })
+}

@@ -1,0 +1,52 @@
+//! The plan of the words.
+ghost use Rattle.std.specs.Prelude.{◌≡◌, ◌≤◌, IfOk, IfErr, All, length, map, string_bytes};
+ghost use Rattle.command_words.specs.Plans.{HasPlan, HasNoPlan, usual_workers};
+ghost use Rattle.command_words.specs.Values.{IsNameByte};
+
+use crate::image::image_or_none;
+use crate::number::number_or;
+use crate::options::read_options;
+use crate::plan::{Plan, Program, WordFault};
+use std::alloc::Global;
+
+/// The most white rectangles that can be asked for, and how many are searched for where no word
+/// tells.
+const MOST_RECTS: u16 = 256;
+
+const USUAL_RECTS: u16 = 32;
+
+/// The most threads that can be asked for, and how many search where no word tells.
+const MOST_WORKERS: u16 = 64;
+
+const USUAL_WORKERS: u16 = 4;
+
+/// How many threads search where no word tells.
+fn workers_of(program: Program) -> u16
+    ensures usual { result ≡ usual_workers program }
+{
+    match program {
+        Program::Alone => 1,
+        Program::Shared => USUAL_WORKERS,
+    }
+}
+
+/// The plan of the words behind the program's name, or `Usage` exactly where they have none.
+pub fn words_of(alloc: Global, words: &[String], program: Program) -> Result<Plan, WordFault>
+    ensures plan { IfOk result (HasPlan program (map string_bytes words.now)) }
+    ensures rects { IfOk result (λ plan. (1 ≤ plan.rects) × (plan.rects ≤ 256)) }
+    ensures workers { IfOk result (λ plan. (1 ≤ plan.workers) × (plan.workers ≤ 64)) }
+    ensures image { IfOk result (λ plan. (length plan.image ≤ 255) × All IsNameByte plan.image) }
+    ensures usage { IfErr result (λ fault. fault ≡ WordFault.Usage
+        → HasNoPlan program (map string_bytes words.now)) }
+{
+    let given = read_options(alloc, words, program)?;
+    let workers = number_or(given.workers, workers_of(program), MOST_WORKERS)?;
+    let rects = number_or(given.rects, USUAL_RECTS, MOST_RECTS)?;
+    let image = image_or_none(alloc, given.image)?;
+    Ok(Plan {
+        rects,
+        workers,
+        image,
+        make: None,
+    })
+}
