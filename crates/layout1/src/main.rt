@@ -1,11 +1,12 @@
 //! Prints the layout of the page on the standard input.
 #![tactic(auto)]
 
-ghost use Rattle.std.specs.Prelude.{◌≡◌, ◌⊎◌, IfErr};
+ghost use Rattle.std.specs.Prelude.{◌≡◌, ◌⊎◌, IfOk, IfErr, map, string_bytes};
+ghost use Rattle.command_words.specs.declared.plan.Program.{Program};
 ghost use Rattle.layout_core.specs.Run.{WritesDocument};
 ghost use Rattle.layout_core.specs.Status.{IsStatus};
 
-use layout_core::{Refusal, layout_alone, refuse};
+use layout_core::{Program, Refusal, layout_alone, refuse};
 use layout_outside::{Sink, Source, StdSink, StdSource};
 use std::alloc::Global;
 use std::io::ErrorKind;
@@ -28,15 +29,16 @@ fn run<S: Source, K: Sink, E: Sink>(
     err: &mut E,
 ) -> u8
     ensures statuses { IsStatus result }
-    // The headline: a run with status 0 read the input to its end and wrote just the page's document.
-    ensures done { result ≡ 0 → WritesDocument (S.left src.old) (S.left src.new) (K.written out.old) (K.written out.new) }
+    // The headline: a run with status 0 read the input to its end and wrote just the document of its page, by the plan of the words.
+    ensures done { result ≡ 0 → IfOk words (λ words. WritesDocument Program.Alone (map string_bytes words.items)
+        (S.left src.old) (S.left src.new) (K.written out.old) (K.written out.new)) }
     // Where the words could not be read, the status is 2 or 7, and nothing is read or written to `out`.
     ensures unreadable { IfErr words (λ _. ((result ≡ 2) ⊎ (result ≡ 7)) × (src.new ≡ src.old) × (out.new ≡ out.old)) }
 {
     match words {
         Ok(words) => layout_alone(alloc, &words, src, out, err),
         Err(fault) if fault.kind() == ErrorKind::OutOfMemory => refuse(err, Refusal::Memory),
-        Err(_) => refuse(err, Refusal::Usage),
+        Err(_) => refuse(err, Refusal::Usage(Program::Alone)),
     }
 }
 

@@ -12,6 +12,7 @@ use Rattle.layout_core.specs.declared.page_layout.CoreFault.TheVariants as fault
 use Rattle.components.specs.Kept.{IsKeptList, IsKeptCount, IsKeptOf, KeptIsUnique}
 use Rattle.layout_core.specs.declared.refusal.Refusal.TheVariants as refusals
 use Rattle.hocr_writer.specs.declared.layout.Layout.{Layout}
+use Rattle.command_words.specs.declared.plan.Plan.{Plan}
 use Rattle.layout_core.specs.Refused.{refusal_of}
 use Rattle.layout_core.specs.Layouts.{HasFewComponents, HasTooMany, IsLayout, IsCoreFault}
 use Rattle.layout_core.specs.Run.{ReadsWhole}
@@ -68,8 +69,8 @@ many_components unique read page count faults.Memory same many f = inr (inl refl
 
 -- ---- a page whose components were found
 
-pub few_of : (page : Page) (layout : Layout) → IsLayout page layout → HasFewComponents page
-few_of page layout l = record { boxes = l.kept.boxes; are_kept = (l.is_kept).boxes; few = (l.is_kept).few }
+pub few_of : (plan : Plan) (page : Page) (layout : Layout) → IsLayout plan page layout → HasFewComponents page
+few_of plan page layout l = record { boxes = l.kept.boxes; are_kept = (l.is_kept).boxes; few = (l.is_kept).few }
 
 pub not_many : KeptIsUnique → (read page : Page) (count : ℕ) → read ≡ page → HasFewComponents read → HasTooMany page count → ⊥
 not_many unique read page count same few many =

@@ -34,7 +34,7 @@ ends_bad old new err_old err_new before now (refusals.Page fault) r line s = rec
 ends_bad old new err_old err_new before now (refusals.TooMany count) r line s = absurd (omega (arith, s))
 ends_bad old new err_old err_new before now refusals.Memory r line s = absurd (omega (arith, s))
 ends_bad old new err_old err_new before now refusals.WriteFault r line s = absurd r
-ends_bad old new err_old err_new before now refusals.Usage r line s = absurd r
+ends_bad old new err_old err_new before now (refusals.Usage program) r line s = absurd r
 
 pub ends_limited : (old new err_old err_new : Option (List ℕ)) (before now : ℕ) (refusal : Refusal) → RefusesLayout old new refusal → WritesLine err_old err_new before now (line_of refusal)
     → status_of refusal ≡ 4 → RefusesPage 4 old err_old err_new before now ⊎ RefusesComponents old new err_old err_new before now
@@ -43,7 +43,7 @@ ends_limited old new err_old err_new before now (refusals.Page fault) r line s =
 ends_limited old new err_old err_new before now (refusals.TooMany count) r line s = inr (record { count = count; too_many = r; line = line })
 ends_limited old new err_old err_new before now refusals.Memory r line s = absurd (omega (arith, s))
 ends_limited old new err_old err_new before now refusals.WriteFault r line s = absurd r
-ends_limited old new err_old err_new before now refusals.Usage r line s = absurd r
+ends_limited old new err_old err_new before now (refusals.Usage program) r line s = absurd r
 
 pub ends_unread : (old new err_old err_new : Option (List ℕ)) (before now first last : ℕ) (refusal : Refusal) → RefusesLayout old new refusal → (refusal ≡ refusals.Page faults.ReadFault → Rose first last)
     → WritesLine err_old err_new before now (line_of refusal) → status_of refusal ≡ 5
@@ -63,7 +63,7 @@ ends_unread old new err_old err_new before now first last (refusals.Page faults.
 ends_unread old new err_old err_new before now first last (refusals.TooMany count) r rose line s = absurd (omega (arith, s))
 ends_unread old new err_old err_new before now first last refusals.Memory r rose line s = absurd (omega (arith, s))
 ends_unread old new err_old err_new before now first last refusals.WriteFault r rose line s = absurd r
-ends_unread old new err_old err_new before now first last refusals.Usage r rose line s = absurd r
+ends_unread old new err_old err_new before now first last (refusals.Usage program) r rose line s = absurd r
 
 pub ends_unmade : (err_old err_new : Option (List ℕ)) (before now : ℕ) (refusal : Refusal) → WritesLine err_old err_new before now (line_of refusal) → status_of refusal ≡ 7
     → WritesLine err_old err_new before now (line_of refusals.Memory)
@@ -82,7 +82,7 @@ ends_unmade err_old err_new before now (refusals.Page faults.Memory) line s = li
 ends_unmade err_old err_new before now (refusals.TooMany count) line s = absurd (omega (arith, s))
 ends_unmade err_old err_new before now refusals.Memory line s = line
 ends_unmade err_old err_new before now refusals.WriteFault line s = absurd (omega (arith, s))
-ends_unmade err_old err_new before now refusals.Usage line s = absurd (omega (arith, s))
+ends_unmade err_old err_new before now (refusals.Usage program) line s = absurd (omega (arith, s))
 
 -- the status of an answer that is the wanted refusal or want of memory
 pub ends_answered : (status : ℕ) (wanted refusal : Refusal) → status ≡ status_of refusal → (refusal ≡ wanted) ⊎ IsWantOfMemory refusal → (status ≡ status_of wanted) ⊎ (status ≡ 7)

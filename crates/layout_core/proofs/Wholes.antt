@@ -18,6 +18,7 @@ use Rattle.reading_order.specs.Answers.{IsReadingOrder}
 use Rattle.reading_order.specs.Areas.{AreAreasFrom}
 use Rattle.hocr_writer.specs.declared.layout.Layout.{Layout}
 use Rattle.hocr_writer.specs.Listing.{listing, HasEachOnce, NamesLines, SplitListing, IsWhole}
+use Rattle.command_words.specs.declared.plan.Plan.{Plan}
 use Rattle.layout_core.specs.Numbering.{box_of}
 use Rattle.layout_core.specs.Layouts.{IsLayout}
 use Rattle.layout_core.proofs.Inside.{numbered_on_grid}
@@ -58,8 +59,8 @@ split : (lines : List Rect) (listed : List ℕ) (reach from : ℕ) (areas : List
 split lines listed reach from [] are = are
 split lines listed reach from (area ∷ areas) are = (are.0.starts, split lines listed reach (from + area.count) areas are.1)
 
-pub whole_layout : (page : Page) (layout : Layout) → IsLayout page layout → IsWhole layout
-whole_layout page layout is =
+pub whole_layout : (plan : Plan) (page : Page) (layout : Layout) → IsLayout plan page layout → IsWhole layout
+whole_layout plan page layout is =
     let high : page.height ≤ 8192 = omega (arith, is.sides.bottom, is.whole.sides.bottom) in
     let boxes = map box_of layout.lines in
     let size : length boxes ≡ length layout.lines = length-map layout.lines box_of in

@@ -2,6 +2,8 @@
 use Rattle.std.specs.Prelude.{ℕ, List, ◌++◌, codes, decimal}
 use Rattle.pbm_reader.specs.declared.fault.PageFault.{PageFault}
 use Rattle.pbm_reader.specs.declared.fault.PageFault.TheVariants as faults
+use Rattle.command_words.specs.declared.plan.Program.{Program}
+use Rattle.command_words.specs.declared.plan.Program.TheVariants.{Alone, Shared}
 use Rattle.layout_core.specs.declared.refusal.Refusal.{Refusal}
 use Rattle.layout_core.specs.declared.refusal.Refusal.TheVariants as refusals
 
@@ -27,9 +29,14 @@ fault_line faults.InputTooLong = codes "limit: input over 268435456 bytes\n"
 fault_line faults.ReadFault = codes "read failed\n"
 fault_line faults.Memory = codes "out of memory\n"
 
+-- the words that a program takes
+abbrev pub usage_of : Program → List ℕ
+usage_of Alone = codes "usage: layout1 [--rects N] [--image NAME]\n"
+usage_of Shared = codes "usage: layout [--workers N] [--rects N] [--image NAME]\n"
+
 -- the line of a run that ended without a document
 unfoldable pub line_of : Refusal → List ℕ
-line_of refusals.Usage = codes "usage: layout1\n"
+line_of (refusals.Usage program) = usage_of program
 line_of (refusals.Page fault) = fault_line fault
 line_of (refusals.TooMany count) = codes "limit: " ++ decimal count ++ codes " components\n"
 line_of refusals.WriteFault = codes "write failed\n"

@@ -1,5 +1,5 @@
 -- How a run ends: its refusals, their statuses, and why each comes.
-use Rattle.std.specs.Prelude.{◌≡◌, ◌<◌, ◌≤◌, ◌⊎◌, ⊤, ℕ, List, [], length, take, Option, Result, Err, IfSome, IsErr, IfErr}
+use Rattle.std.specs.Prelude.{◌≡◌, ◌<◌, ◌≤◌, ◌⊎◌, ⊤, ℕ, List, length, take, Option, Result, Err, IfSome, IsErr, IfErr}
 use Rattle.std.specs.Io.KnownBytes.{append_known}
 use Rattle.layout_outside.specs.Causes.{Rose}
 use Rattle.pbm_reader.specs.declared.fault.PageFault.{PageFault}
@@ -7,14 +7,17 @@ use Rattle.pbm_reader.specs.declared.fault.PageFault.TheVariants as faults
 use Rattle.pbm_reader.specs.Fault.{HasFault, DecidesNothing}
 use Rattle.pbm_reader.specs.Left.{Took}
 use Rattle.pbm_reader.specs.Reading.{Refuses}
+use Rattle.command_words.specs.declared.plan.Plan.{Plan}
+use Rattle.command_words.specs.declared.plan.Program.{Program}
+use Rattle.command_words.specs.Plans.{HasPlan}
 use Rattle.layout_core.specs.Run.{ReadsTooMany}
 use Rattle.layout_core.specs.Line.{fault_line, line_of}
 use Rattle.layout_core.specs.declared.refusal.Refusal.{Refusal}
 use Rattle.layout_core.specs.declared.refusal.Refusal.TheVariants as refusals
 
--- the words of a command line that asks for something that can be done: none at all
-abbrev pub HasPlan : {Word : Type 0} → List Word → Type 0
-HasPlan words = words ≡ []
+-- the words of a command line tell a program what to do
+abbrev pub IsPlanned : Program → List (List ℕ) → Type 0
+IsPlanned program words = (plan : Plan) × HasPlan program words plan
 
 -- the status of a page that was not read
 abbrev pub fault_status : PageFault → ℕ
@@ -27,7 +30,7 @@ fault_status fault = 3
 
 -- the status of a run that ended without a document
 abbrev pub status_of : Refusal → ℕ
-status_of refusals.Usage = 2
+status_of (refusals.Usage program) = 2
 status_of (refusals.Page fault) = fault_status fault
 status_of (refusals.TooMany count) = 4
 status_of refusals.WriteFault = 6

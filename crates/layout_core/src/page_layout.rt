@@ -1,5 +1,5 @@
 //! The layout of a page.
-ghost use Rattle.std.specs.Prelude.{IfOk, IfErr};
+ghost use Rattle.std.specs.Prelude.{◌≡◌, ◌≤◌, IfOk, IfErr};
 ghost use Rattle.page_runs.specs.Page.{Page};
 ghost use Rattle.page_runs.specs.Packed.{Holds, IsWhole, page_of};
 ghost use Rattle.layout_geom.specs.Rectangles.{HasSides};
@@ -7,6 +7,7 @@ ghost use Rattle.layout_core.specs.Layouts.{IsLayout, IsCoreFault};
 
 use crate::numbering::{areas_in, boxes_of, number_lines};
 use box_search::Searcher;
+use command_words::Plan;
 use components::{CompFault, components};
 use gutters::gutters;
 use hocr_writer::Layout;
@@ -19,9 +20,6 @@ use whitespace_cover::cover;
 
 /// The least width and height of a white rectangle in pixels, where the median height is less.
 const LEAST_SIZE: u16 = 8;
-
-/// The most white rectangles of a page.
-const MOST_WHITES: u32 = 32;
 
 /// Why a page has no layout.
 #[derive(Debug, Clone, Copy, PartialEq, Eq, Drop)]
@@ -65,9 +63,18 @@ fn page_rect(page: &RunPage) -> Rect
     Rect::new(0, 0, page.width(), page.height()).unwrap()
 }
 
-/// The layout of a page, by any searcher: its black pixels, its kept components and their median height, the greedy
-/// cover of its white space (Breuel 2002) by at most 32 rectangles that are at least as wide and as high as the median
-/// height and as 8 pixels, the gutters among them, the greedy lines of its text, the order in which they are read
+/// The name of an image, in a list of its own.
+fn copy_of(alloc: Global, name: &Name) -> Result<Name, AllocError>
+    ensures { IfOk result (λ copy. copy ≡ name.now) }
+{
+    let _count = name.len();
+    let copy = Vec::from_slice(alloc, name.as_slice())?;
+    Ok(Name::from_vec(copy))
+}
+
+/// The layout of a page by a plan, by any searcher: its black pixels, its kept components and their median height, the
+/// greedy cover of its white space (Breuel 2002) by at most as many rectangles as planned, each at least as wide and as
+/// high as the median height and as 8 pixels, the gutters among them, the greedy lines of its text, the order in which they are read
 /// (Breuel 2003), and the areas that they form.
 ///
 /// It refuses a page of which more than 60,000 components are kept, and for want of memory.
@@ -75,23 +82,35 @@ pub fn layout_of<F: Searcher>(
     alloc: Global,
     run: &F::Run,
     page: &RunPage,
+    plan: &Plan,
     searcher: &mut F,
 ) -> Result<Layout, CoreFault>
-    requires { IsWhole page.now }
+    requires whole { IsWhole page.now }
+    requires some { 1 ≤ plan.now.rects }
+    requires few { plan.now.rects ≤ 256 }
     // The page is each one whose pixels these are.
-    ensures layout { (held : Page) → Holds page.now held → IfOk result (IsLayout held) }
+    ensures layout { (held : Page) → Holds page.now held → IfOk result (IsLayout plan.now held) }
     ensures fault { (held : Page) → Holds page.now held → IfErr result (IsCoreFault held) }
 {
     let kept = components(alloc, page)?;
     let least = kept.median.max(LEAST_SIZE);
     let whole = page_rect(page);
-    let whites = cover(alloc, run, whole, &kept.boxes, least, MOST_WHITES, searcher)?;
+    let whites = cover(
+        alloc,
+        run,
+        whole,
+        &kept.boxes,
+        least,
+        plan.rects as u32,
+        searcher,
+    )?;
     let gutters = gutters(alloc, &whites, &kept)?;
     let found = lines(alloc, run, &kept, &gutters, page.height(), searcher)?;
     let lines = number_lines(alloc, &found)?;
     let boxes = boxes_of(alloc, &lines)?;
     let order = order_of(alloc, &boxes)?;
     let areas = areas_in(alloc, &boxes, &order, kept.median)?;
+    let image = copy_of(alloc, &plan.image)?;
     Ok(Layout {
         page: 0,
         width: page.width(),
@@ -99,7 +118,7 @@ pub fn layout_of<F: Searcher>(
         black: page.black(),
         kept: kept.boxes.len() as u32,
         median: kept.median,
-        image: Name::new(alloc),
+        image,
         whites,
         gutters,
         lines,

@@ -1,5 +1,5 @@
 //! The layout of the page that a source spells.
-ghost use Rattle.std.specs.Prelude.{◌≡◌, ℕ, List, Some, IfOk, IfErr};
+ghost use Rattle.std.specs.Prelude.{◌≡◌, ◌≤◌, ℕ, List, Some, IfOk, IfErr};
 ghost use Rattle.layout_outside.specs.Causes.{Rose};
 ghost use Rattle.pbm_reader.specs.declared.fault.PageFault.{PageFault};
 ghost use Rattle.pbm_reader.specs.Page.{Page};
@@ -12,7 +12,8 @@ ghost use Rattle.layout_core.specs.declared.refusal.Refusal.{Refusal};
 
 use crate::page_layout::layout_of;
 use crate::refusal::Refusal;
-use box_search::Alone;
+use box_search::Searcher;
+use command_words::Plan;
 use components::kept_is_unique;
 use hocr_writer::Layout;
 use layout_outside::Source;
@@ -20,9 +21,17 @@ use page_runs::{RunPage, given_page_is_held};
 use pbm_reader::{each_input_is_judged, read_page};
 use std::alloc::Global;
 
-/// Reads a page to the end of the input, and finds its layout.
-pub fn read_layout<S: Source>(alloc: Global, src: &mut S) -> Result<Layout, Refusal>
-    ensures layout { IfOk result (ReadsLayout (S.left src.old) (S.left src.new)) }
+/// Reads a page to the end of the input, and finds its layout by the plan, with any searcher.
+pub(crate) fn read_layout<F: Searcher, S: Source>(
+    alloc: Global,
+    plan: &Plan,
+    run: &F::Run,
+    searcher: &mut F,
+    src: &mut S,
+) -> Result<Layout, Refusal>
+    requires some { 1 ≤ plan.now.rects }
+    requires few { plan.now.rects ≤ 256 }
+    ensures layout { IfOk result (ReadsLayout plan.now (S.left src.old) (S.left src.new)) }
     ensures refused { IfErr result (RefusesLayout (S.left src.old) (S.left src.new)) }
     ensures cause { HasRefusalCause (S.faults src.old) (S.faults src.new) result }
     ensures complete { (input : List ℕ) (page : Page) → S.left src.old ≡ Some input → Spells input page → HasFewComponents page
@@ -38,6 +47,6 @@ pub fn read_layout<S: Source>(alloc: Global, src: &mut S) -> Result<Layout, Refu
     kept_is_unique();
     let mut page = RunPage::empty(alloc);
     let _size = read_page(alloc, src, &mut page)?;
-    let layout = layout_of(alloc, &(), &page, &mut Alone)?;
+    let layout = layout_of(alloc, run, &page, plan, searcher)?;
     Ok(layout)
 }

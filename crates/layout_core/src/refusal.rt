@@ -1,22 +1,23 @@
 //! How a run ends without a document: its status, and its line on `err`.
 ghost use Rattle.std.specs.Prelude.{◌≡◌, ◌++◌, ◌≤◌, length, codes, decimal};
-ghost use Rattle.layout_core.specs.Line.{place_line, size_line, fault_line, line_of};
+ghost use Rattle.layout_core.specs.Line.{usage_of, place_line, size_line, fault_line, line_of};
 ghost use Rattle.layout_core.specs.Status.{fault_status, status_of, WritesLine};
 
 use crate::page_layout::CoreFault;
 use arrayvec::ArrayString;
+use command_words::Program;
 use itoa::Buffer;
 use layout_outside::{Sink, put_all};
 use pbm_reader::PageFault;
 
-/// A line that takes no memory: the longest has 43 bytes.
+/// A line that takes no memory: the longest has 55 bytes.
 pub type Line = ArrayString<64>;
 
 /// Why a run ended without a document.
 #[derive(Debug, Clone, Copy, PartialEq, Eq, Drop)]
 pub enum Refusal {
-    /// The words of the command line ask for nothing that can be done.
-    Usage,
+    /// The words of the program's command line have no plan.
+    Usage(Program),
     /// No page was read.
     Page(PageFault),
     /// More than 60,000 components of the page are kept, and so many.
@@ -58,7 +59,7 @@ impl Refusal {
         ensures { result ≡ status_of self.now }
     {
         match self {
-            Refusal::Usage => 2,
+            Refusal::Usage(_) => 2,
             Refusal::Page(fault) => status_of_fault(fault),
             Refusal::TooMany { .. } => 4,
             Refusal::WriteFault => 6,
@@ -72,7 +73,7 @@ impl Refusal {
         ensures { result.bytes ≡ line_of self.now }
     {
         match self {
-            Refusal::Usage => line_from("usage: layout1\n"),
+            Refusal::Usage(program) => line_of_usage(*program),
             Refusal::Page(fault) => line_of_fault(fault),
             Refusal::TooMany { count } => line_of_count(*count),
             Refusal::WriteFault => line_from("write failed\n"),
@@ -150,6 +151,16 @@ fn line_of_place(what: &str, at: u64) -> Line
     line.push_str(buffer.format(at));
     line.push_str("\n");
     line
+}
+
+/// The line that tells which words a program takes.
+fn line_of_usage(program: Program) -> Line
+    ensures { result.bytes ≡ usage_of program }
+{
+    match program {
+        Program::Alone => line_from("usage: layout1 [--rects N] [--image NAME]\n"),
+        Program::Shared => line_from("usage: layout [--workers N] [--rects N] [--image NAME]\n"),
+    }
 }
 
 /// The line that tells the sizes of a page that is too large.

@@ -1,26 +1,30 @@
 //! The whole run on one thread.
-ghost use Rattle.std.specs.Prelude.{◌≡◌, ◌≢◌, ◌⊎◌, ℕ, List, Some};
+ghost use Rattle.std.specs.Prelude.{◌≡◌, ◌≢◌, ◌⊎◌, ℕ, List, Some, map, string_bytes};
 ghost use Rattle.layout_outside.specs.Causes.{Rose};
 ghost use Rattle.pbm_reader.specs.declared.fault.PageFault.{PageFault};
 ghost use Rattle.pbm_reader.specs.Page.{Page};
 ghost use Rattle.pbm_reader.specs.Spelling.{Spells};
 ghost use Rattle.pbm_reader.specs.Fault.{HasFault};
+ghost use Rattle.command_words.specs.declared.plan.Program.{Program};
+ghost use Rattle.command_words.specs.Plans.{HasNoPlan};
 ghost use Rattle.layout_core.specs.Layouts.{HasFewComponents, HasTooMany};
 ghost use Rattle.layout_core.specs.Run.{WritesDocument, FrontOfDocument};
 ghost use Rattle.layout_core.specs.Line.{line_of, fault_line};
-ghost use Rattle.layout_core.specs.Status.{HasPlan, IsStatus, fault_status, WritesLine, RefusesPage, RefusesComponents, IsUndecided};
+ghost use Rattle.layout_core.specs.Status.{IsPlanned, IsStatus, fault_status, WritesLine, RefusesPage, RefusesComponents, IsUndecided};
 ghost use Rattle.layout_core.specs.declared.refusal.Refusal.{Refusal};
 
-use crate::reading::read_layout;
+use crate::job::lay_out;
 use crate::refusal::{Refusal, refuse};
-use hocr_writer::hocr_text;
-use layout_outside::{Sink, Source, put_all};
+use box_search::Alone;
+use command_words::{Program, WordFault, words_of};
+use layout_outside::{Sink, Source};
 use std::alloc::Global;
 
-/// Reads a page from the source, writes its document to `out`, and answers the status of the run:
+/// Does what the words of `layout1` plan: reads a page from the source, writes its document to `out`, and answers the
+/// status of the run:
 ///
 /// - 0: the input was read to its end, and the page's document was written whole;
-/// - 2: there is a word, and no word is understood yet; nothing was read;
+/// - 2: the words have no plan; nothing was read;
 /// - 3: the input spells no page in Netpbm's PBM;
 /// - 4: the header, the sizes or the input are beyond the limits, or more than 60,000 components of
 ///   the page are kept;
@@ -38,27 +42,30 @@ pub fn layout_alone<S: Source, K: Sink, E: Sink>(
     err: &mut E,
 ) -> u8
     ensures statuses { IsStatus result }
-    // The input was read to its end, it spells a page, and just the page's document was written.
-    ensures done { result ≡ 0 → WritesDocument (S.left src.old) (S.left src.new) (K.written out.old) (K.written out.new) }
+    // The words have a plan, the input was read to its end, it spells a page, and just the document of the page's layout by
+    // that plan was written.
+    ensures done { result ≡ 0 → WritesDocument Program.Alone (map string_bytes words.now)
+        (S.left src.old) (S.left src.new) (K.written out.old) (K.written out.new) }
     ensures silent { result ≡ 0 → err.new ≡ err.old }
 
     // 2 comes exactly where the words have no plan, and then the source is as before.
-    ensures planless { ¬ HasPlan words.now → result ≡ 2 }
-    ensures usage { result ≡ 2 → ¬ HasPlan words.now × (src.new ≡ src.old)
-        × WritesLine (E.written err.old) (E.written err.new) (E.faults err.old) (E.faults err.new) (line_of Refusal.Usage) }
+    ensures planless { HasNoPlan Program.Alone (map string_bytes words.now) → (result ≡ 2) ⊎ (result ≡ 7) }
+    ensures usage { result ≡ 2 → HasNoPlan Program.Alone (map string_bytes words.now) × (src.new ≡ src.old)
+        × WritesLine (E.written err.old) (E.written err.new) (E.faults err.old) (E.faults err.new) (line_of (Refusal.Usage Program.Alone)) }
+    ensures planned { result ≢ 2 → result ≢ 7 → IsPlanned Program.Alone (map string_bytes words.now) }
 
     // 3 or 4 comes exactly where the input has a fault of that status and the run reaches it, and the line names the fault.
     ensures bad_page { result ≡ 3 → RefusesPage 3 (S.left src.old)
         (E.written err.old) (E.written err.new) (E.faults err.old) (E.faults err.new) }
-    ensures faulty { HasPlan words.now → (input : List ℕ) (fault : PageFault) → S.left src.old ≡ Some input → HasFault input fault
+    ensures faulty { IsPlanned Program.Alone (map string_bytes words.now) → (input : List ℕ) (fault : PageFault) → S.left src.old ≡ Some input → HasFault input fault
         → ¬ Rose (S.faults src.old) (S.faults src.new) → (result ≡ fault_status fault) ⊎ (result ≡ 7) }
 
     // 4 comes also exactly where more than 60,000 components are kept and the run reaches it, and the line counts them.
     ensures limited { result ≡ 4 → RefusesPage 4 (S.left src.old)
-            (E.written err.old) (E.written err.new) (E.faults err.old) (E.faults err.new)
+        (E.written err.old) (E.written err.new) (E.faults err.old) (E.faults err.new)
         ⊎ RefusesComponents (S.left src.old) (S.left src.new)
-            (E.written err.old) (E.written err.new) (E.faults err.old) (E.faults err.new) }
-    ensures limit { HasPlan words.now → (input : List ℕ) (page : Page) (count : ℕ) → S.left src.old ≡ Some input → Spells input page
+        (E.written err.old) (E.written err.new) (E.faults err.old) (E.faults err.new) }
+    ensures limit { IsPlanned Program.Alone (map string_bytes words.now) → (input : List ℕ) (page : Page) (count : ℕ) → S.left src.old ≡ Some input → Spells input page
         → HasTooMany page count → ¬ Rose (S.faults src.old) (S.faults src.new) → (result ≡ 4) ⊎ (result ≡ 7) }
 
     ensures read_fault { result ≡ 5 → Rose (S.faults src.old) (S.faults src.new)
@@ -67,7 +74,7 @@ pub fn layout_alone<S: Source, K: Sink, E: Sink>(
 
     // A page was read, and a proper front of its document was written.
     ensures write_fault { result ≡ 6 → Rose (K.faults out.old) (K.faults out.new)
-        × FrontOfDocument (S.left src.old) (S.left src.new) (K.written out.old) (K.written out.new)
+        × FrontOfDocument Program.Alone (map string_bytes words.now) (S.left src.old) (S.left src.new) (K.written out.old) (K.written out.new)
         × WritesLine (E.written err.old) (E.written err.new) (E.faults err.old) (E.faults err.new) (line_of Refusal.WriteFault) }
 
     ensures memory { result ≡ 7 →
@@ -75,22 +82,25 @@ pub fn layout_alone<S: Source, K: Sink, E: Sink>(
     ensures unwritten { result ≢ 0 → result ≢ 6 → out.new ≡ out.old }
 
     // A page with few components that no read failed on is done, unless a write failed or memory was refused.
-    ensures complete { HasPlan words.now → (input : List ℕ) (page : Page) → S.left src.old ≡ Some input → Spells input page
+    ensures complete { IsPlanned Program.Alone (map string_bytes words.now) → (input : List ℕ) (page : Page) → S.left src.old ≡ Some input → Spells input page
         → HasFewComponents page → ¬ Rose (S.faults src.old) (S.faults src.new)
         → (result ≡ 0) ⊎ ((result ≡ 6) × Rose (K.faults out.old) (K.faults out.new)) ⊎ (result ≡ 7) }
 {
-    if !words.is_empty() {
-        return refuse(err, Refusal::Usage);
-    }
-    let layout = match read_layout(alloc, src) {
-        Ok(layout) => layout,
-        Err(refusal) => return refuse(err, refusal),
-    };
-    let Ok(text) = hocr_text(alloc, &layout) else {
-        return refuse(err, Refusal::Memory);
-    };
-    match put_all(out, &text) {
-        Ok(()) => 0,
-        Err(_) => refuse(err, Refusal::WriteFault),
+    match words_of(alloc, words, Program::Alone) {
+        Ok(plan) => lay_out(
+            alloc,
+            Program::Alone,
+            words,
+            &plan,
+            &(),
+            &mut Alone,
+            src,
+            out,
+            err,
+        ),
+        Err(fault) => match fault {
+            WordFault::Usage => refuse(err, Refusal::Usage(Program::Alone)),
+            WordFault::Memory => refuse(err, Refusal::Memory),
+        },
     }
 }

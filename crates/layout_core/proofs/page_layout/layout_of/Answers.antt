@@ -39,7 +39,7 @@ lines-requires-clause-few_boxes g c = (c.in_ok-kept.ensures.kept (page_of c.args
 pub lines-requires-clause-few_gutters : goal.lines-requires-clause-few_gutters
 lines-requires-clause-few_gutters g c =
     let few : length c.in_ok-gutters.gutters ≤ length c.in_ok-whites.whites = rw c.in_ok-gutters.ensures.filtered (filter_few _ c.in_ok-whites.whites) in
-    omega (arith, few, c.in_ok-whites.ensures.cover.few)
+    omega (arith, few, c.in_ok-whites.ensures.cover.few, c.requires.few)
 
 pub lines-requires-clause-contained : goal.lines-requires-clause-contained
 lines-requires-clause-contained g c =
@@ -59,7 +59,7 @@ returns-clause-layout g c =
     let kept = c.in_ok-kept.kept in
     let whole = c.page_rect-whole.result in
     let sides = c.page_rect-whole.ensures in
-    let P : ℕ → Type 0 = λ least. IsCover whole kept.boxes least 32 c.in_ok-whites.whites in
+    let P : ℕ → Type 0 = λ least. IsCover whole kept.boxes least c.args.plan.now.rects c.in_ok-whites.whites in
     let Q : ℕ → Type 0 = λ height. AreLinesOf kept c.in_ok-gutters.gutters height c.in_ok-found.found in
     let order = c.in_ok-order.order in
     let R : List Rect → Type 0 = λ boxes. AreAreasOf boxes (listing order (length boxes)) kept.median c.in_ok-areas.areas in
@@ -78,7 +78,7 @@ returns-clause-layout g c =
       median_is = refl;
       cover = subst P c.max-least.ensures c.in_ok-whites.ensures.cover;
       gutters_are = c.in_ok-gutters.ensures.filtered;
-      unnamed = c.new.ensures.empty;
+      image_is = c.in_ok-image.ensures;
       found = c.in_ok-found.found;
       are_lines = subst Q (c.height.ensures.value ∙ holds.height_is) c.in_ok-found.ensures.lines;
       numbered = c.in_ok-lines.ensures;

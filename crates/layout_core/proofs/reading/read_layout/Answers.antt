@@ -5,8 +5,8 @@ use Rattle.layout_core.specs.Run.{ReadsWhole}
 use Rattle.layout_core.proofs.Components.{same_page, refused_components, few_components, many_components, few_of, not_many}
 use Rattle.layout_core.proofs.reading.read_layout.Goals as goal
 
-pub layout_of-requires : goal.layout_of-requires
-layout_of-requires g c =
+pub layout_of-requires-clause-whole : goal.layout_of-requires-clause-whole
+layout_of-requires-clause-whole g c =
     let read = c.in_ok-_size.ensures.page in
     (c.given_page_is_held.ensures read.page c.empty-page.result c.read_page.new.rows read.sink).0
 
@@ -63,4 +63,4 @@ returns-clause-limit g c =
     let whole : ReadsWhole old new read.page = record { input = read.input; took = read.took; spells = read.spells } in
     λ input page count told spells many calm.
     let same = same_page c.each_input_is_judged.ensures.one_page old new input read.page page told whole spells in
-    absurd (not_many c.kept_is_unique.ensures read.page page count same (few_of read.page c.in_ok-layout.layout (c.in_ok-layout.ensures.layout read.page held)) many)
+    absurd (not_many c.kept_is_unique.ensures read.page page count same (few_of c.args.plan.now read.page c.in_ok-layout.layout (c.in_ok-layout.ensures.layout read.page held)) many)
