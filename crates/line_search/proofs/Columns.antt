@@ -55,7 +55,7 @@ sure_grows shape a b order (g ∷ gs) =
     omega (arith, sure_grows shape a b order gs, count (λ (x : Rect). all_cross shape x && leb (middle_of x) b) g gs, count (λ (x : Rect). all_cross shape x && leb (middle_of x) a) g gs, one_grows (all_cross shape g) (middle_of g) a b order)
 
 -- boxes of one column are in one sure column
-pub one_column : (shape : Shape) (slope offset : ℤ) → IsInside slope offset shape → (gutters : List Rect) (a b : ℕ) → column_of slope offset gutters a ≡ column_of slope offset gutters b → sure_column shape gutters a ≡ sure_column shape gutters b
+one_column : (shape : Shape) (slope offset : ℤ) → IsInside slope offset shape → (gutters : List Rect) (a b : ℕ) → column_of slope offset gutters a ≡ column_of slope offset gutters b → sure_column shape gutters a ≡ sure_column shape gutters b
 one_column shape slope offset inside gutters a b same = ⊎_elim
     (λ less. omega (arith, same, columns_part shape slope offset inside a b (omega arith) gutters, sure_grows shape a b (omega arith) gutters))
     (λ more. omega (arith, same, columns_part shape slope offset inside b a more gutters, sure_grows shape b a more gutters))

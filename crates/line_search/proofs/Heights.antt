@@ -31,7 +31,7 @@ before : (a b : ℤ) → a <ℤ b → a ≤ℤ (b -ℤ pos 1)
 before a b h = omega (arith, ints)
 
 -- a greater distance weighs less
-pub weights_fall : (e d : ℕ) → e ≤ d → weight_at d ≤ weight_at e
+weights_fall : (e d : ℕ) → e ≤ d → weight_at d ≤ weight_at e
 weights_fall e d h = let squares : e * e ≤ d * d = mul-le-mul h h in omega arith
 
 -- a line of the shape passes between the two heights

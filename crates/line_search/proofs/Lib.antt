@@ -1,8 +1,10 @@
 -- Lemmas of the search for the best line and of the greedy list.
 pub mod Heights
+pub mod Stretches
 pub mod Reaching
 pub mod Columns
 pub mod Sums
+pub mod Singles
 pub mod Bounding
 pub mod Ranges
 pub mod Steps

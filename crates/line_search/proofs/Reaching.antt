@@ -1,9 +1,7 @@
 -- The positions of the boxes that can weigh something for the lines of a shape.
-use Rattle.std.proofs.Common.{◌≡◌, ℕ, ◌+◌, ◌<◌, ◌≤◌, ℤ, Bool, true, false, cond, ◌&&◌, eqb, ltb, List, [], ◌∷◌, length, Option, Some, None, slice_get, arith, refl, sym, ◌∙◌, ap, All}
+use Rattle.std.proofs.Common.{◌≡◌, ℕ, ◌+◌, ◌≤◌, ℤ, Bool, true, false, cond, ◌&&◌, eqb, ltb, List, [], ◌∷◌, length, Option, Some, None, slice_get, arith, refl, sym, ◌∙◌, ap}
 use Rattle.std.specs.List.{filter, sum_by}
 use Rattle.std.proofs.lemmas.List.Sums.{sum_by-cons}
-use Rattle.std.proofs.lemmas.List.Elements.{All-filter}
-use Rattle.std.proofs.lemmas.List.Filters.{length-filter_both}
 use Rattle.std.proofs.lemmas.Bool.Decides.{nat_tests}
 use Rattle.layout_geom.specs.declared.rect.Rect.{Rect}
 use Rattle.box_search.specs.declared.space.Shape.{Shape}
@@ -11,9 +9,12 @@ use Rattle.line_quality.specs.Points.{weight, middle_of, column_of}
 use Rattle.line_quality.specs.Scores.{is_of, group_of}
 use Rattle.line_search.specs.Problem.{Problem}
 use Rattle.line_search.specs.Shapes.{IsInside}
-use Rattle.line_search.specs.Bounds.{reach, reaching, total_reach, HasReaching}
+use Rattle.line_search.specs.declared.span.Span.{Span}
+use Rattle.line_search.specs.Bounds.{reach, reaching, total_reach, stretch_of, HasReaching}
+use Rattle.line_search.proofs.Stretches.{stretch_twice}
+use Rattle.std.proofs.lemmas.List.{length-take}
+use Rattle.std.proofs.Common.{◌-◌, drop}
 use Rattle.line_search.proofs.Heights.{weight_below, reach_shrinks, HasCorners}
-use Rattle.std.proofs.Common.{not}
 
 inner_first : (p : ℕ → Bool) (x : ℕ) (ys zs : List ℕ) (b c : Bool) → p x ≡ b → (b ≡ true → c ≡ true) → filter p ys ≡ zs → filter p (cond c (x ∷ ys) ys) ≡ cond b (x ∷ zs) zs
 inner_first p x ys zs true true is stricter same = rw (is, same) refl
@@ -22,7 +23,7 @@ inner_first p x ys zs false true is stricter same = rw (is, same) refl
 inner_first p x ys zs false false is stricter same = same
 
 -- a stricter test keeps of the kept what it keeps of all
-pub filter_twice : (p q : ℕ → Bool) → ((x : ℕ) → p x ≡ true → q x ≡ true) → (xs : List ℕ) → filter p (filter q xs) ≡ filter p xs
+filter_twice : (p q : ℕ → Bool) → ((x : ℕ) → p x ≡ true → q x ≡ true) → (xs : List ℕ) → filter p (filter q xs) ≡ filter p xs
 filter_twice p q stricter [] = refl
 filter_twice p q stricter (x ∷ xs) = inner_first p x (filter q xs) (filter p xs) (p x) (q x) refl (stricter x) (filter_twice p q stricter xs)
 
@@ -36,10 +37,10 @@ sum_some f [] = refl
 sum_some f (x ∷ xs) = some_first f x (filter (λ y. ltb 0 (f y)) xs) (ltb 0 (f x)) refl ∙ ap (λ (n : ℕ). f x + n) (sum_some f xs) ∙ sym (sum_by-cons f x xs)
 
 -- the positions of a node can weigh no more than all that are alive
-pub same_total : (problem : Problem) (shape : Shape) (positions : List ℕ) → HasReaching problem shape positions → total_reach shape problem.boxes positions ≡ total_reach shape problem.boxes problem.alive
-same_total problem shape positions near =
+pub same_total : (problem : Problem) (shape : Shape) (positions : List ℕ) → reaching shape problem.boxes positions ≡ reaching shape problem.boxes problem.alive → total_reach shape problem.boxes positions ≡ total_reach shape problem.boxes problem.alive
+same_total problem shape positions same =
     let f : ℕ → ℕ = λ position. reach shape (slice_get problem.boxes position) in
-    sym (sum_some f positions) ∙ ap (λ (xs : List ℕ). sum_by f xs) near.same ∙ sum_some f problem.alive
+    sym (sum_some f positions) ∙ ap (λ (xs : List ℕ). sum_by f xs) same ∙ sum_some f problem.alive
 
 above_some : (a b : ℕ) → a ≤ b → ltb 0 a ≡ true → ltb 0 b ≡ true
 above_some a b more some = grind (arith, nat_tests)
@@ -59,10 +60,10 @@ group_twice shape slope offset inside boxes gutters in_column xs =
     (λ position is. member_reaches shape slope offset inside gutters in_column (slice_get boxes position) is) xs
 
 -- so a group among the positions of a node is one among all that are alive
-pub same_group : (problem : Problem) (shape : Shape) (slope offset : ℤ) → IsInside slope offset shape → (positions : List ℕ) → HasReaching problem shape positions → (in_column : ℕ) → group_of slope offset problem.boxes problem.gutters in_column positions ≡ group_of slope offset problem.boxes problem.gutters in_column problem.alive
-same_group problem shape slope offset inside positions near in_column =
+pub same_group : (problem : Problem) (shape : Shape) (slope offset : ℤ) → IsInside slope offset shape → (positions : List ℕ) → reaching shape problem.boxes positions ≡ reaching shape problem.boxes problem.alive → (in_column : ℕ) → group_of slope offset problem.boxes problem.gutters in_column positions ≡ group_of slope offset problem.boxes problem.gutters in_column problem.alive
+same_group problem shape slope offset inside positions same in_column =
     sym (group_twice shape slope offset inside problem.boxes problem.gutters in_column positions)
-    ∙ ap (group_of slope offset problem.boxes problem.gutters in_column) near.same
+    ∙ ap (group_of slope offset problem.boxes problem.gutters in_column) same
     ∙ group_twice shape slope offset inside problem.boxes problem.gutters in_column problem.alive
 
 part_twice : (shape part : Shape) → HasCorners shape part → (boxes : List Rect) (xs : List ℕ) → reaching part boxes (reaching shape boxes xs) ≡ reaching part boxes xs
@@ -70,24 +71,22 @@ part_twice shape part corners boxes xs =
     filter_twice (λ position. ltb 0 (reach part (slice_get boxes position))) (λ position. ltb 0 (reach shape (slice_get boxes position)))
     (λ position some. above_some (reach part (slice_get boxes position)) (reach shape (slice_get boxes position)) (reach_shrinks shape part corners (slice_get boxes position)) some) xs
 
--- the positions of a node have those of each part
-pub part_reaching : (problem : Problem) (shape part : Shape) → HasCorners shape part → (positions : List ℕ) → HasReaching problem shape positions → HasReaching problem part positions
-part_reaching problem shape part corners positions near = record {
-  same = sym (part_twice shape part corners problem.boxes positions) ∙ ap (reaching part problem.boxes) near.same ∙ part_twice shape part corners problem.boxes problem.alive;
-  within = near.within;
-  few = near.few;
+-- the stretch of a node has the positions of each part
+pub part_reaching : (problem : Problem) (shape part : Shape) → HasCorners shape part → (span : Span) → HasReaching problem shape span → HasReaching problem part span
+part_reaching problem shape part corners span near = record {
+  ordered = near.ordered;
+  inside = near.inside;
+  same = sym (part_twice shape part corners problem.boxes (stretch_of span problem.alive)) ∙ ap (reaching part problem.boxes) near.same ∙ part_twice shape part corners problem.boxes problem.alive;
 }
 
--- those that can weigh something are enough
-pub kept_reaching : (problem : Problem) (shape : Shape) (positions kept : List ℕ) → HasReaching problem shape positions → kept ≡ reaching shape problem.boxes positions → HasReaching problem shape kept
-kept_reaching problem shape positions kept near is =
-    let p : ℕ → Bool = λ position. ltb 0 (reach shape (slice_get problem.boxes position)) in
-    rw is (record {
-      same = filter_twice p p (λ position some. some) positions ∙ near.same;
-      within = All-filter p (λ (position : ℕ). position < length problem.boxes) positions near.within;
-      few = omega (arith, near.few, length-filter_both p (λ (position : ℕ). not (p position)) (λ _. refl) positions);
-    })
-
--- all that are alive are enough for each shape
-pub all_reaching : (problem : Problem) (shape : Shape) → All (λ position. position < length problem.boxes) problem.alive → length problem.alive ≤ 60000 → HasReaching problem shape problem.alive
-all_reaching problem shape within few = record { same = refl; within = within; few = few }
+-- and so has a stretch of it that has the positions that count
+pub kept_reaching : (problem : Problem) (shape : Shape) (span inner : Span) → HasReaching problem shape span → inner.from ≤ inner.to → inner.to ≤ length (stretch_of span problem.alive)
+    → reaching shape problem.boxes (stretch_of inner (stretch_of span problem.alive)) ≡ reaching shape problem.boxes (stretch_of span problem.alive)
+    → HasReaching problem shape (record { from = span.from + inner.from; to = span.from + inner.to })
+kept_reaching problem shape span inner near ordered inside same =
+    let short : inner.to ≤ span.to - span.from = omega (arith, inside, length-take (span.to - span.from) (drop span.from problem.alive)) in
+    record {
+      ordered = omega (arith, ordered);
+      inside = omega (arith, short, near.ordered, near.inside);
+      same = ap (reaching shape problem.boxes) (stretch_twice problem.alive span.from (span.to - span.from) inner.from inner.to ordered short) ∙ same ∙ near.same;
+    }

@@ -9,6 +9,7 @@ use Rattle.box_search.specs.declared.space.Node.{Node}
 use Rattle.box_search.specs.Search.{IsRoot, Settles, Splits}
 use Rattle.box_search.specs.Shapes.{size, range_length, at_least_zero}
 use Rattle.line_quality.specs.Keys.{line_key}
+use Rattle.line_search.specs.declared.span.Span.{Span}
 use Rattle.line_search.specs.Problem.{Problem, numbers_of, HasScore, HasPointOfKey, IsAdmitted}
 use Rattle.line_search.specs.ProblemLaws.{on_numbers, of_numbers}
 use Rattle.line_search.specs.Shapes.{IsInside, LiesInShape, IsInGrid, IsSingle, whole_grid}
@@ -22,9 +23,9 @@ use Rattle.line_search.proofs.Ranges.{half_inside}
 use borrow.Author.Differences.{up, down}
 
 abbrev GridNode : Type 0
-GridNode = Node (List ℕ)
+GridNode = Node Span
 
-pub fits_here : (problem : Problem) (node : GridNode) → FitsGrid (numbers_of problem) node → IsNodeIn node problem
+fits_here : (problem : Problem) (node : GridNode) → FitsGrid (numbers_of problem) node → IsNodeIn node problem
 fits_here problem node fits = of_numbers (IsNodeIn node) problem fits
 
 lies : (problem : Problem) (shape : Shape) (slope offset : ℤ) (score key : ℕ) → problem.height ≤ 8192 → HasScore problem slope offset score → line_key score slope offset ≡ key → IsInside slope offset shape → LiesInShape key shape
@@ -37,19 +38,6 @@ lies problem shape slope offset score key high scored is inside = record {
   has_key = is;
   inside = inside;
 }
-
-whole_in : (height : ℕ) (shape : Shape) → shape ≡ whole_grid height → height ≤ 8192 → IsInGrid height shape
-whole_in height shape whole high = rw whole (record {
-  page = high;
-  from_slope = omega (arith, ints);
-  some_slope = omega (arith, ints);
-  to_slope = omega (arith, ints);
-  from_offset = omega (arith, ints);
-  some_offset = omega (arith, ints);
-  to_offset = omega (arith, ints);
-  from_third = refl;
-  to_third = refl;
-})
 
 pub root_is : (problem : Problem) (node : GridNode) → node.shape ≡ whole_grid problem.height → problem.height ≤ 8192 → IsNodeIn node problem → IsRoot (IsAdmitted (numbers_of problem)) LiesInShape (FitsGrid (numbers_of problem)) node
 root_is problem node whole high fit = record {
@@ -133,7 +121,7 @@ pub record IsPartOf (height : ℕ) (shape part : Shape) : Type 0 where
   pub inside : (slope offset : ℤ) → IsInside slope offset part → IsInside slope offset shape
 
 -- its corners lie in the shape
-pub corners_of : (height : ℕ) (shape part : Shape) → IsPartOf height shape part → HasCorners shape part
+corners_of : (height : ℕ) (shape part : Shape) → IsPartOf height shape part → HasCorners shape part
 corners_of height shape part is = record {
   first = is.inside part.a0 part.b0 (first_inside height part is.in_grid);
   last = is.inside (part.a1 -ℤ pos 1) (part.b1 -ℤ pos 1) (record {
@@ -190,7 +178,7 @@ offsets_part height shape grid low high from to less some = record {
   };
 }
 
-pub halves_are : (height : ℕ) (shape lower upper : Shape) → IsInGrid height shape → AreHalves shape lower upper → IsPartOf height shape lower × IsPartOf height shape upper
+halves_are : (height : ℕ) (shape lower upper : Shape) → IsInGrid height shape → AreHalves shape lower upper → IsPartOf height shape lower × IsPartOf height shape upper
 halves_are height shape lower upper grid (inl (long, is_lower, is_upper)) =
     let middle = half_inside shape.a0 shape.a1 long in (
       rw is_lower (slopes_part height shape grid shape.a0 (half shape.a0 shape.a1) (omega (arith, ints)) (omega (arith, ints, middle)) (inr middle.1) middle.0),
@@ -222,20 +210,20 @@ lies_half shape lower upper halves key at = ⊎_elim
 pub record IsHandedOn (problem : Problem) (node : GridNode) (part : Shape) : Type 0 where
   pub in_grid : IsInGrid problem.height part
   pub over : IsOver problem part node.bound
-  pub positions : HasReaching problem part node.work
+  pub reaching : HasReaching problem part node.work
 
-handed : (problem : Problem) (node : GridNode) (part : Shape) → IsNodeIn node problem → (IsSingle node.shape → ⊥) → IsPartOf problem.height node.shape part → IsHandedOn problem node part
-handed problem node part fit wide is = record {
+handed : (problem : Problem) (node : GridNode) (part : Shape) → IsNodeIn node problem → IsPartOf problem.height node.shape part → IsHandedOn problem node part
+handed problem node part fit is = record {
   in_grid = is.in_grid;
   over = λ slope offset score scored inside. fit.bounded.over slope offset score scored (is.inside slope offset inside);
-  positions = part_reaching problem node.shape part (corners_of problem.height node.shape part is) node.work (fit.near wide);
+  reaching = part_reaching problem node.shape part (corners_of problem.height node.shape part is) node.work fit.near;
 }
 
-pub handed_on : (problem : Problem) (node : GridNode) (lower upper : Shape) → FitsGrid (numbers_of problem) node → (IsSingle node.shape → ⊥) → AreHalves node.shape lower upper → IsHandedOn problem node lower × IsHandedOn problem node upper
-handed_on problem node lower upper fits wide halves =
+pub handed_on : (problem : Problem) (node : GridNode) (lower upper : Shape) → FitsGrid (numbers_of problem) node → AreHalves node.shape lower upper → IsHandedOn problem node lower × IsHandedOn problem node upper
+handed_on problem node lower upper fits halves =
     let fit = fits_here problem node fits in
     let parts = halves_are problem.height node.shape lower upper fit.in_grid halves in
-    (handed problem node lower fit wide parts.0, handed problem node upper fit wide parts.1)
+    (handed problem node lower fit parts.0, handed problem node upper fit parts.1)
 
 -- a node keeps the lesser of its bound and another one
 pub limited : (problem : Problem) (node : GridNode) (shape : Shape) (limit bound : ℕ) → IsNodeIn node problem → node.shape ≡ shape → IsOver problem shape limit → bound ≡ min node.bound limit → IsNodeIn (record { shape = node.shape; bound = bound; work = node.work }) problem

@@ -1,5 +1,5 @@
 -- The sums of the columns, as they grow box by box.
-use Rattle.std.proofs.Common.{◌≡◌, ℕ, ◌+◌, ◌<◌, ◌≤◌, Bool, true, false, cond, ◌&&◌, eqb, ltb, leb, List, [], ◌∷◌, ◌++◌, map, length, get_or, take, set, replicate, Some, slice_get, arith, refl, sym, ◌∙◌, ap, ⊎_elim, get_or-set_same, get_or-set_other, append-nil}
+use Rattle.std.proofs.Common.{◌≡◌, ℕ, ◌+◌, ◌<◌, ◌≤◌, Bool, true, false, cond, ◌&&◌, eqb, ltb, leb, List, [], ◌∷◌, ◌++◌, map, length, get_or, take, set, replicate, Some, slice_get, arith, refl, sym, ◌∙◌, ap, ⊎_elim, get_or-set_same, get_or-set_other}
 use Rattle.std.specs.List.{filter, sum_by, count_by}
 use Rattle.std.proofs.lemmas.List.{take_all, get_or-take, length-take, get_or-replicate, get_or_past, length-replicate}
 use Rattle.std.proofs.lemmas.List.Elements.{filter_more}
@@ -11,7 +11,7 @@ use Rattle.std.proofs.Common.{not}
 use Rattle.layout_geom.specs.declared.rect.Rect.{Rect}
 use Rattle.box_search.specs.declared.space.Shape.{Shape}
 use Rattle.line_quality.specs.Points.{middle_of}
-use Rattle.line_search.specs.Bounds.{reach, all_cross, sure_column, is_surely, total_reach, column_reach}
+use Rattle.line_search.specs.Bounds.{reach, all_cross, sure_column, is_surely, total_reach, column_reach, HasMost}
 
 pub zero_at : (count place : ℕ) → let zero_value : ℕ = 0 in get_or (replicate count zero_value) place zero_value ≡ zero_value
 zero_at count place = ⊎_elim
@@ -53,13 +53,6 @@ set_sums sums a w other within = ⊎_elim
 pub added_nothing : (a b w : ℕ) → w ≤ 0 → cond (eqb a b) w 0 ≡ 0
 added_nothing a b w none = grind (arith, nat_tests)
 
--- one more position, where its box can weigh something and where it cannot
-pub kept_more : (p : ℕ → Bool) (xs : List ℕ) (i : ℕ) → i < length xs → p (get_or xs i 0) ≡ true → filter p (take (i + 1) xs) ≡ filter p (take i xs) ++ get_or xs i 0 ∷ []
-kept_more p xs i within passes = filter_more p xs i 0 within ∙ rw passes refl
-
-pub kept_same : (p : ℕ → Bool) (xs : List ℕ) (i : ℕ) → i < length xs → p (get_or xs i 0) ≡ false → filter p (take (i + 1) xs) ≡ filter p (take i xs)
-kept_same p xs i within fails = filter_more p xs i 0 within ∙ rw fails (append-nil (filter p (take i xs)))
-
 pub can_weigh : (w : ℕ) → 0 < w → ltb 0 w ≡ true
 can_weigh w some = grind (arith, nat_tests)
 
@@ -82,9 +75,10 @@ column_by_middles shape (gutter ∷ gutters) anchor =
 pub record IsGreatestSum (sums : List ℕ) (most in_column : ℕ) : Type 0 where
   pub reached : get_or sums in_column 0 ≡ most
   pub greatest : (other : ℕ) → get_or sums other 0 ≤ most
+  pub least : (other : ℕ) → other < in_column → get_or sums other 0 < most
 
-pub of_front : (sums : List ℕ) (count most in_column : ℕ) → in_column < length (take count sums) → get_or (take count sums) in_column 0 ≡ most → ((other : ℕ) → get_or (take count sums) other 0 ≤ most) → ((other : ℕ) → count ≤ other → get_or sums other 0 ≡ 0) → IsGreatestSum sums most in_column
-of_front sums count most in_column within reached greatest none =
+pub of_front : (sums : List ℕ) (count most in_column : ℕ) → in_column < length (take count sums) → get_or (take count sums) in_column 0 ≡ most → ((other : ℕ) → get_or (take count sums) other 0 ≤ most) → ((other : ℕ) → other < in_column → get_or (take count sums) other 0 < most) → ((other : ℕ) → count ≤ other → get_or sums other 0 ≡ 0) → IsGreatestSum sums most in_column
+of_front sums count most in_column within reached greatest least none =
     let first : in_column < count = omega (arith, length-take count sums) in
     record {
       reached = sym (get_or-take count sums in_column 0 first) ∙ reached;
@@ -92,12 +86,22 @@ of_front sums count most in_column within reached greatest none =
           (λ below. omega (arith, get_or-take count sums other 0 below, greatest other))
           (λ above. omega (arith, none other above))
           (cases_lt other count);
+      least = λ other before. let below : other < count = omega arith in omega (arith, get_or-take count sums other 0 below, least other before);
+    }
+
+at_end : (shape : Shape) (boxes gutters : List Rect) (positions : List ℕ) (n in_column : ℕ) → length positions ≤ n → column_reach shape boxes gutters (take n positions) in_column ≡ column_reach shape boxes gutters positions in_column
+at_end shape boxes gutters positions n in_column long = ap (λ (xs : List ℕ). column_reach shape boxes gutters xs in_column) (take_all n positions long)
+
+pub most_of : (shape : Shape) (boxes gutters : List Rect) (positions sums : List ℕ) (n most in_column : ℕ) → length positions ≤ n → ((column : ℕ) → get_or sums column 0 ≡ column_reach shape boxes gutters (take n positions) column) → IsGreatestSum sums most in_column → HasMost shape boxes gutters positions most in_column
+most_of shape boxes gutters positions sums n most in_column long are best =
+    let all : (column : ℕ) → get_or sums column 0 ≡ column_reach shape boxes gutters positions column = λ column. are column ∙ at_end shape boxes gutters positions n column long in
+    record {
+      reached = sym (all in_column) ∙ best.reached;
+      greatest = λ other. omega (arith, all other, best.greatest other);
+      least = λ other before. omega (arith, all other, best.least other before);
     }
 
 -- the sum of a column is no more than that of all
 pub column_below : (shape : Shape) (boxes gutters : List Rect) (positions : List ℕ) (in_column : ℕ) → column_reach shape boxes gutters positions in_column ≤ total_reach shape boxes positions
 column_below shape boxes gutters positions in_column =
     omega (arith, sum_by-filter_both (λ (p : ℕ). is_surely shape gutters in_column (slice_get boxes p)) (λ (p : ℕ). not (is_surely shape gutters in_column (slice_get boxes p))) (λ _. refl) (λ (p : ℕ). reach shape (slice_get boxes p)) positions)
-
-pub at_end : (shape : Shape) (boxes gutters : List Rect) (positions : List ℕ) (n in_column : ℕ) → length positions ≤ n → column_reach shape boxes gutters (take n positions) in_column ≡ column_reach shape boxes gutters positions in_column
-at_end shape boxes gutters positions n in_column long = ap (λ (xs : List ℕ). column_reach shape boxes gutters xs in_column) (take_all n positions long)

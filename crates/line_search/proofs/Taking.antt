@@ -42,7 +42,7 @@ pub record IsTaken (problem : Problem) (slope offset : ℤ) (score in_column : �
 abbrev pub Decodes : ℕ → ℤ → ℤ → Type 0
 Decodes key s b = (score : ℕ) (slope offset : ℤ) → IsSlope slope → IsOffset offset → line_key score slope offset ≡ key → (slope ≡ s) × (offset ≡ b)
 
-pub decodes_as : (key : ℕ) (s b s' b' : ℤ) → s ≡ s' → b ≡ b' → Decodes key s b → Decodes key s' b'
+decodes_as : (key : ℕ) (s b s' b' : ℤ) → s ≡ s' → b ≡ b' → Decodes key s b → Decodes key s' b'
 decodes_as key s b s' b' same_s same_b decodes = λ score slope offset hs hb is.
     let found = decodes score slope offset hs hb is in
     (found.0 ∙ same_s, found.1 ∙ same_b)
@@ -72,7 +72,7 @@ pub record IsWinner (problem : Problem) (key : ℕ) (s b : ℤ) (score : ℕ) : 
   pub enough : 60 ≤ score
   pub is : line_key score s b ≡ key
 
-pub winner_is : (problem : Problem) (key : ℕ) → problem.height ≤ 8192 → IsAnswer problem key → 0 < key → (s b : ℤ) → Decodes key s b → (score in_column : ℕ) → IsScore s b problem.boxes problem.gutters problem.alive score in_column → IsWinner problem key s b score
+winner_is : (problem : Problem) (key : ℕ) → problem.height ≤ 8192 → IsAnswer problem key → 0 < key → (s b : ℤ) → Decodes key s b → (score in_column : ℕ) → IsScore s b problem.boxes problem.gutters problem.alive score in_column → IsWinner problem key s b score
 winner_is problem key high answer some s b decodes score in_column scored =
     let found = found_at problem key answer some in
     let at = found.admissible.scored in
@@ -106,11 +106,11 @@ some_of : (f : ℕ → ℕ) (xs : List ℕ) → 0 < sum_by f xs → 0 < length x
 some_of f [] some = absurd (omega arith)
 some_of f (x ∷ xs) some = omega arith
 
-pub members_some : (problem : Problem) (s b : ℤ) (score in_column : ℕ) (members others : List ℕ) → IsTaken problem s b score in_column members others → 60 ≤ score → 0 < length members
+members_some : (problem : Problem) (s b : ℤ) (score in_column : ℕ) (members others : List ℕ) → IsTaken problem s b score in_column members others → 60 ≤ score → 0 < length members
 members_some problem s b score in_column members others taken enough =
     rw taken.members_are (some_of (λ (position : ℕ). weight_of s b (slice_get problem.boxes position)) (group_of s b problem.boxes problem.gutters in_column problem.alive) (omega (arith, taken.scored.reached, enough)))
 
-pub members_within : (problem : Problem) (s b : ℤ) (score in_column : ℕ) (members others : List ℕ) → IsTaken problem s b score in_column members others → All (λ position. position < length problem.boxes) problem.alive → All (λ position. position < length problem.boxes) members
+members_within : (problem : Problem) (s b : ℤ) (score in_column : ℕ) (members others : List ℕ) → IsTaken problem s b score in_column members others → All (λ position. position < length problem.boxes) problem.alive → All (λ position. position < length problem.boxes) members
 members_within problem s b score in_column members others taken within =
     rw taken.members_are (All-filter (λ (position : ℕ). is_of s b problem.gutters in_column (slice_get problem.boxes position)) (λ (position : ℕ). position < length problem.boxes) problem.alive within)
 
@@ -156,7 +156,7 @@ fewer_are problem s b score in_column members others taken some =
     omega (arith, both, ap length taken.members_are, ap length taken.others_are, some)
 
 -- the decoded numbers fit their types
-pub decodes_back : (problem : Problem) (key : ℕ) → problem.height ≤ 8192 → IsAnswer problem key → 0 < key → (s b : ℤ) → Decodes key s b → Decodes key (to_z w8 (of_z w8 s)) (to_z w16 (of_z w16 b))
+decodes_back : (problem : Problem) (key : ℕ) → problem.height ≤ 8192 → IsAnswer problem key → 0 < key → (s b : ℤ) → Decodes key s b → Decodes key (to_z w8 (of_z w8 s)) (to_z w16 (of_z w16 b))
 decodes_back problem key high greatest some s b decodes =
     let found = found_at problem key greatest some in
     let point = found.admissible.scored.point in

@@ -1,5 +1,5 @@
 -- What the lines of a shape can score at most.
-use Rattle.std.specs.Prelude.{◌≡◌, ℕ, ◌+◌, ◌<◌, ◌≤◌, ℤ, pos, ◌-ℤ◌, List, length, Option, Some, None, slice_get, All, Bool, false, ◌&&◌, ◌==◌, int_lt, int_le, nat_le, nat_lt}
+use Rattle.std.specs.Prelude.{take, drop, ◌-◌, ◌≡◌, ℕ, ◌+◌, ◌<◌, ◌≤◌, ℤ, pos, ◌-ℤ◌, List, length, Option, Some, None, slice_get, Bool, false, ◌&&◌, ◌==◌, int_lt, int_le, nat_le, nat_lt}
 use Rattle.std.specs.Int.{int_gap, int_min, int_max}
 use Rattle.std.specs.List.{sum_by, count_by, filter}
 use Rattle.layout_geom.specs.declared.rect.Rect.{Rect}
@@ -7,6 +7,7 @@ use Rattle.box_search.specs.declared.space.Shape.{Shape}
 use Rattle.box_search.specs.declared.space.Node.{Node}
 use Rattle.line_quality.specs.Points.{height_at, middle_of, weight_at}
 use Rattle.line_quality.specs.Keys.{line_key}
+use Rattle.line_search.specs.declared.span.Span.{Span}
 use Rattle.line_search.specs.Problem.{Problem, OfProblem, HasScore}
 use Rattle.line_search.specs.Shapes.{IsInside, IsInGrid, IsSingle}
 
@@ -55,6 +56,12 @@ module _ (shape : Shape) (boxes : List Rect) where
 abbrev pub nearest_slope : Shape → ℤ
 nearest_slope shape = int_max shape.a0 (int_min (shape.a1 -ℤ pos 1) (pos 0))
 
+-- the greatest of the sums of the columns, and the least column that has it
+pub record HasMost (shape : Shape) (boxes gutters : List Rect) (positions : List ℕ) (most in_column : ℕ) : Type 0 where
+  pub reached : column_reach shape boxes gutters positions in_column ≡ most
+  pub greatest : (other : ℕ) → column_reach shape boxes gutters positions other ≤ most
+  pub least : (other : ℕ) → other < in_column → column_reach shape boxes gutters positions other < most
+
 -- the bound that knows no columns
 abbrev pub plain_bound : Problem → Shape → ℕ
 plain_bound problem shape = line_key (total_reach shape problem.boxes problem.alive) (nearest_slope shape) shape.b0
@@ -69,17 +76,21 @@ pub record IsBound (problem : Problem) (shape : Shape) (bound : ℕ) : Type 0 wh
   pub single : IsSingle shape → (score : ℕ) × HasScore problem shape.a0 shape.b0 score × (line_key score shape.a0 shape.b0 ≡ bound)
   pub wide : (IsSingle shape → ⊥) → bound ≤ plain_bound problem shape
 
--- of the boxes that are alive the positions have, in order, those that can weigh something for a line of the shape
-pub record HasReaching (problem : Problem) (shape : Shape) (positions : List ℕ) : Type 0 where
-  pub same : reaching shape problem.boxes positions ≡ reaching shape problem.boxes problem.alive
-  pub within : All (λ position. position < length problem.boxes) positions
-  pub few : length positions ≤ 60000
+-- a stretch of a list
+abbrev pub stretch_of : {X : Type 0} → Span → List X → List X
+stretch_of span xs = take (span.to - span.from) (drop span.from xs)
 
--- the node's shape is of the grid, its bound is one, and unless it is a single point its positions are those that count
-pub record IsNodeIn (node : Node (List ℕ)) (problem : Problem) : Type 0 where
+-- the stretch of the positions that are alive has all whose box can weigh something for a line of the shape
+pub record HasReaching (problem : Problem) (shape : Shape) (span : Span) : Type 0 where
+  pub ordered : span.from ≤ span.to
+  pub inside : span.to ≤ length problem.alive
+  pub same : reaching shape problem.boxes (stretch_of span problem.alive) ≡ reaching shape problem.boxes problem.alive
+
+-- the node's shape is of the grid, its bound is one, and its stretch has the positions that count
+pub record IsNodeIn (node : Node Span) (problem : Problem) : Type 0 where
   pub in_grid : IsInGrid problem.height node.shape
   pub bounded : IsBound problem node.shape node.bound
-  pub near : (IsSingle node.shape → ⊥) → HasReaching problem node.shape node.work
+  pub near : HasReaching problem node.shape node.work
 
-abbrev pub FitsGrid : List ℤ → Node (List ℕ) → Type 0
+abbrev pub FitsGrid : List ℤ → Node Span → Type 0
 FitsGrid numbers node = OfProblem (IsNodeIn node) numbers

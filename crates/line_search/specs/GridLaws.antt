@@ -7,6 +7,7 @@ use Rattle.box_search.specs.declared.space.Node.{Node}
 use Rattle.line_quality.specs.Points.{IsOffset}
 use Rattle.line_quality.specs.KeyLaws.{same_point}
 use Rattle.line_search.specs.Lines.{IsPoint}
+use Rattle.line_search.specs.declared.span.Span.{Span}
 use Rattle.line_search.specs.Problem.{Problem, numbers_of, HasPointOfKey, IsAdmitted}
 use Rattle.line_search.specs.ProblemLaws.{same_problem}
 use Rattle.line_search.specs.Shapes.{IsInside, LiesInShape}
@@ -29,7 +30,7 @@ inside_of key problem shape high here lies =
 pub grid_positive : (numbers : List ℤ) (key : ℕ) → IsAdmitted numbers key → 0 < key
 grid_positive numbers key admitted = omega (arith, admitted.holds.has_key, admitted.holds.admissible.enough)
 
-pub grid_bounded : (numbers : List ℤ) (node : Node (List ℕ)) (key : ℕ) → FitsGrid numbers node → IsAdmitted numbers key → LiesInShape key node.shape → key ≤ node.bound
+pub grid_bounded : (numbers : List ℤ) (node : Node Span) (key : ℕ) → FitsGrid numbers node → IsAdmitted numbers key → LiesInShape key node.shape → key ≤ node.bound
 grid_bounded numbers node key fits admitted lies =
     let problem = fits.problem in
     let here = admitted_here problem numbers key fits.stands admitted in

@@ -6,6 +6,7 @@ use Rattle.box_search.specs.declared.space.Node.{Node}
 use Rattle.box_search.specs.declared.space.Step.{Step}
 use Rattle.box_search.specs.declared.space.Step.TheVariants.{Settled, Split}
 use Rattle.line_search.specs.Lines.{IsAdmissible}
+use Rattle.line_search.specs.declared.span.Span.{Span}
 use Rattle.line_search.specs.Problem.{Problem, HasPointOfKey}
 use Rattle.line_search.specs.Shapes.{LiesInShape, IsSingle}
 
@@ -36,13 +37,13 @@ abbrev pub HasNoPoint : Problem → Shape → Type 0
 HasNoPoint problem shape = (key : ℕ) → HasPointOfKey key problem → LiesInShape key shape → ⊥
 
 -- the nodes of both parts in order, and a part is left out only where no admissible point lies in it
-pub record IsGridSplit (problem : Problem) (shape : Shape) (nodes : List (Node (List ℕ))) : Type 0 where
+pub record IsGridSplit (problem : Problem) (shape : Shape) (nodes : List (Node Span)) : Type 0 where
   pub lower : Shape
   pub upper : Shape
   pub keep_lower : Bool
   pub keep_upper : Bool
   pub halves : AreHalves shape lower upper
-  pub are : map (λ (node : Node (List ℕ)). node.shape) nodes ≡ cond keep_lower (lower ∷ []) [] ++ cond keep_upper (upper ∷ []) []
+  pub are : map (λ (node : Node Span). node.shape) nodes ≡ cond keep_lower (lower ∷ []) [] ++ cond keep_upper (upper ∷ []) []
   pub no_lower : keep_lower ≡ false → HasNoPoint problem lower
   pub no_upper : keep_upper ≡ false → HasNoPoint problem upper
 
@@ -51,7 +52,7 @@ abbrev pub IsPointAdmissible : Problem → Shape → ℕ → Type 0
 IsPointAdmissible problem shape score = IsAdmissible problem.boxes problem.gutters problem.height problem.alive shape.a0 shape.b0 score
 
 -- a single point is settled exactly where it is admissible, and any other shape is cut
-abbrev pub IsGridStep : Problem → Shape → Step (List ℕ) → Type 0
+abbrev pub IsGridStep : Problem → Shape → Step Span → Type 0
 IsGridStep problem shape (Settled key) = IsSingle shape × ((score : ℕ) × IsPointAdmissible problem shape score)
 IsGridStep problem shape (Split nodes) =
     (IsSingle shape × (nodes.items ≡ []) × ((score : ℕ) → IsPointAdmissible problem shape score → ⊥))

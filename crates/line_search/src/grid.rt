@@ -4,6 +4,7 @@ use crate::line::Line;
 use crate::members::{divide, least_round};
 use crate::near::near;
 use crate::parts::{halves, listed};
+use crate::span::Span;
 use box_search::{Node, Shape, Space, Step};
 use layout_geom::{Numbers, OutOfMemory, Rects};
 use line_quality::{line_key, point_of, score_at};
@@ -70,33 +71,23 @@ impl Grid {
         }
     }
 
-    /// The node of a shape. The positions are at least those of the boxes that can weigh something for its
-    /// lines.
-    fn node_of(
-        &self,
-        alloc: Global,
-        shape: Shape,
-        positions: &Numbers,
-    ) -> Result<Node<Numbers>, OutOfMemory>
+    /// The node of a shape. The stretch has at least the positions of the boxes that can weigh something for
+    /// its lines.
+    fn node_of(&self, alloc: Global, shape: Shape, span: Span) -> Result<Node<Span>, OutOfMemory>
         requires in_grid { IsInGrid self.now.height shape }
-        requires positions { HasReaching self.now shape positions.now }
+        requires reaching { HasReaching self.now shape span }
         ensures fitting { IfOk result (λ node. IsNodeIn node self.now) }
         ensures shape { IfOk result (λ node. node.shape ≡ shape) }
     {
-        if is_single(&shape) {
-            let (slope, offset) = (shape.a0 as i8, shape.b0 as i16);
-            let score = score_at(slope, offset, &self.boxes, positions, &self.gutters);
-            return Ok(Node {
-                shape,
-                bound: line_key(score.score, slope, offset),
-                work: Numbers::new(alloc),
-            });
-        }
+        let positions = &self.alive.as_slice()[span.from as usize..span.to as usize];
         let near = near(alloc, &shape, &self.boxes, &self.gutters, positions)?;
         Ok(Node {
             shape,
-            bound: line_key(near.most, nearest_slope(&shape), shape.b0 as i16),
-            work: near.positions,
+            bound: line_key(near.score.score, nearest_slope(&shape), shape.b0 as i16),
+            work: Span {
+                from: span.from + near.span.from,
+                to: span.from + near.span.to,
+            },
         })
     }
 
@@ -105,18 +96,18 @@ impl Grid {
         &self,
         alloc: Global,
         shape: Shape,
-        positions: &Numbers,
+        span: Span,
         limit: u64,
-    ) -> Result<Option<Node<Numbers>>, OutOfMemory>
+    ) -> Result<Option<Node<Span>>, OutOfMemory>
         requires in_grid { IsInGrid self.now.height shape }
-        requires positions { HasReaching self.now shape positions.now }
+        requires reaching { HasReaching self.now shape span }
         requires over { IsOver self.now shape limit }
         ensures fitting { IfOk result (λ part. IfSome part (λ node. IsNodeIn node self.now)) }
         ensures shape { IfOk result (λ part. IfSome part (λ node. node.shape ≡ shape)) }
         ensures bound { IfOk result (λ part. IfSome part (λ node. node.bound ≤ limit)) }
         ensures none { IfOk result (λ part. IfNone part (HasNoPoint self.now shape)) }
     {
-        let node = self.node_of(alloc, shape, positions)?;
+        let node = self.node_of(alloc, shape, span)?;
         let bound = node.bound.min(limit);
         if bound < LEAST_KEY {
             return Ok(None);
@@ -166,7 +157,7 @@ impl Space for Grid {
     ghost use Rattle.line_search.specs.Parts.{IsGridStep};
     ghost use Rattle.line_search.specs.GridLaws.{grid_positive, grid_bounded};
 
-    type Work = Numbers;
+    type Work = Span;
 
     ghost problem = { numbers_of };
 
@@ -180,7 +171,7 @@ impl Space for Grid {
 
     ghost bounded = { grid_bounded };
 
-    fn root(&self, alloc: Global) -> Result<Option<Node<Numbers>>, OutOfMemory>
+    fn root(&self, alloc: Global) -> Result<Option<Node<Span>>, OutOfMemory>
         ensures root { let p = numbers_of self.now in IfOk result (IsRootOf (IsAdmitted p) LiesInShape (FitsGrid p)) }
         // There always is one, and its shape is the whole grid.
         ensures always { IfOk result (λ root. IsSome root) }
@@ -194,11 +185,15 @@ impl Space for Grid {
             c0: 0,
             c1: 1,
         };
-        let node = self.node_of(alloc, shape, &self.alive)?;
+        let all = Span {
+            from: 0,
+            to: self.alive.len() as u32,
+        };
+        let node = self.node_of(alloc, shape, all)?;
         Ok(Some(node))
     }
 
-    fn step(&self, alloc: Global, node: &Node<Numbers>) -> Result<Step<Numbers>, OutOfMemory>
+    fn step(&self, alloc: Global, node: &Node<Span>) -> Result<Step<Span>, OutOfMemory>
         requires fits { FitsGrid (numbers_of self.now) node.now }
         ensures step { let p = numbers_of self.now in IfOk result (IsStepOf (IsAdmitted p) LiesInShape (FitsGrid p) node.now) }
         ensures exactly { IfOk result (IsGridStep self.now node.now.shape) }
@@ -210,8 +205,8 @@ impl Space for Grid {
             return Ok(Step::Settled(node.bound));
         }
         let (lower, upper) = halves(&node.shape);
-        let lower = self.part(alloc, lower, &node.work, node.bound)?;
-        let upper = self.part(alloc, upper, &node.work, node.bound)?;
+        let lower = self.part(alloc, lower, node.work, node.bound)?;
+        let upper = self.part(alloc, upper, node.work, node.bound)?;
         Ok(Step::Split(listed(alloc, lower, upper)?))
     }
 }

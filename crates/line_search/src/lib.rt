@@ -10,6 +10,7 @@ mod line;
 mod members;
 mod near;
 mod parts;
+mod span;
 #[cfg(test)]
 mod tests;
 
@@ -17,3 +18,4 @@ pub use greedy::lines;
 pub use grid::Grid;
 pub use layout_geom::OutOfMemory;
 pub use line::{Line, Lines};
+pub use span::Span;

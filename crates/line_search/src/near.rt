@@ -1,24 +1,25 @@
 //! The boxes that count for the lines of a shape, and what those of one column can weigh together.
-ghost use Rattle.std.specs.Prelude.{◌≡◌, ℕ, ◌*◌, ◌<◌, ◌≤◌, IfOk, length, map, nat_le, All};
+ghost use Rattle.std.specs.Prelude.{◌≡◌, ◌*◌, ◌<◌, ◌≤◌, IfOk, length, map, nat_le, All};
 ghost use Rattle.std.specs.List.{filter, count_by};
 ghost use Rattle.line_quality.specs.Points.{middle_of};
 ghost use Rattle.line_search.specs.Bounds;
-ghost use Rattle.line_search.specs.Bounds.{reaching, total_reach, column_reach};
+ghost use Rattle.line_search.specs.Bounds.{reaching, stretch_of, HasMost};
 ghost use Rattle.line_search.specs.Shapes.{IsInGrid};
 
 use crate::bound::{all_cross, reach};
+use crate::span::Span;
 use box_search::Shape;
-use layout_geom::{Numbers, OutOfMemory, Rect, Rects};
-use line_quality::{COLUMNS, greatest, middle};
+use layout_geom::{OutOfMemory, Rect, Rects};
+use line_quality::{COLUMNS, Score, greatest, middle};
 use std::alloc::Global;
 
-/// The boxes that count for the lines of a shape.
-#[derive(Drop)]
+/// What counts for the lines of a shape.
+#[derive(Clone, Copy)]
 pub(crate) struct Nearby {
-    /// Their positions.
-    pub(crate) positions: Numbers,
-    /// What those of one column can weigh together at most.
-    pub(crate) most: u32,
+    /// A stretch that has the positions of all boxes that can weigh something.
+    pub(crate) span: Span,
+    /// The most that the boxes of one column can weigh together, and the least column that has it.
+    pub(crate) score: Score,
 }
 
 /// The middles of the gutters that all lines of the shape cross, in the order of the gutters.
@@ -44,37 +45,36 @@ fn column_among(middles: &[u16], anchor: u16) -> usize
     middles.iter().filter(|middle| **middle <= anchor).count()
 }
 
-/// The boxes at the positions that can weigh something for a line of the shape.
+/// Which stretch of the positions has all the boxes that can weigh something for a line of the shape, and
+/// what those of one column can weigh together.
 pub(crate) fn near(
     alloc: Global,
     shape: &Shape,
     boxes: &Rects,
     gutters: &Rects,
-    positions: &Numbers,
+    positions: &[u32],
 ) -> Result<Nearby, OutOfMemory>
     requires shape { IsInGrid 8192 shape.now }
     requires few_gutters { length gutters.now ≤ 256 }
     requires few { length positions.now ≤ 60000 }
     requires within { All (λ position. position < length boxes.now) positions.now }
-    ensures reaching { IfOk result (λ near. near.positions ≡ reaching shape.now boxes.now positions.now) }
-    ensures greatest { IfOk result (λ near. (in_column : ℕ) → column_reach shape.now boxes.now gutters.now positions.now in_column ≤ near.most) }
-    ensures least { IfOk result (λ near. near.most ≤ total_reach shape.now boxes.now positions.now) }
-    ensures small { IfOk result (λ near. near.most ≤ 25 * length positions.now) }
+    ensures ordered { IfOk result (λ near. near.span.from ≤ near.span.to) }
+    ensures inside { IfOk result (λ near. near.span.to ≤ length positions.now) }
+    ensures reaching { IfOk result (λ near. reaching shape.now boxes.now (stretch_of near.span positions.now) ≡ reaching shape.now boxes.now positions.now) }
+    ensures most { IfOk result (λ near. HasMost shape.now boxes.now gutters.now positions.now near.score.score near.score.column) }
+    ensures small { IfOk result (λ near. near.score.score ≤ 25 * length positions.now) }
 {
     let middles = sure_middles(alloc, shape, gutters.as_slice())?;
     let mut sums = [0; COLUMNS];
-    let mut kept = Numbers::new(alloc);
-    for position in positions.as_slice() {
+    let mut span = Span { from: 0, to: 0 };
+    for (place, position) in positions.iter().enumerate() {
         let rect = boxes.get(*position as usize);
         let weight = reach(shape, rect);
         if weight > 0 {
             sums[column_among(&middles, middle(rect))] += weight;
-            kept.push(*position)?;
+            span = span.grown(place as u32);
         }
     }
-    let most = greatest(&sums[..middles.len() + 1]).score;
-    Ok(Nearby {
-        positions: kept,
-        most,
-    })
+    let score = greatest(&sums[..middles.len() + 1]);
+    Ok(Nearby { span, score })
 }

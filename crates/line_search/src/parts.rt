@@ -5,8 +5,9 @@ ghost use Rattle.line_search.specs.Shapes.{IsInGrid, IsSingle};
 ghost use Rattle.line_search.specs.Parts;
 ghost use Rattle.line_search.specs.Parts.{AreHalves};
 
+use crate::span::Span;
 use box_search::{Node, Shape};
-use layout_geom::{Numbers, OutOfMemory};
+use layout_geom::OutOfMemory;
 use std::alloc::Global;
 
 /// The middle of a range, rounded towards the lesser number.
@@ -53,9 +54,9 @@ pub(crate) fn halves(shape: &Shape) -> (Shape, Shape)
 /// The nodes that are there, in order.
 pub(crate) fn listed(
     alloc: Global,
-    lower: Option<Node<Numbers>>,
-    upper: Option<Node<Numbers>>,
-) -> Result<Vec<Node<Numbers>>, OutOfMemory>
+    lower: Option<Node<Span>>,
+    upper: Option<Node<Span>>,
+) -> Result<Vec<Node<Span>>, OutOfMemory>
     ensures { IfOk result (λ nodes. nodes.items ≡ option_to_list lower ++ option_to_list upper) }
 {
     let mut nodes = Vec::with_capacity(alloc, 2)?;

@@ -15,22 +15,22 @@ pub returns-then-is_single-clause-exactly : goal.returns-then-is_single-clause-e
 returns-then-is_single-clause-exactly c = (c.if-is_single.ensures.0 refl, settled_score c.args.self.now c.args.node.now c.requires.fits (c.if-is_single.ensures.0 refl) c.if-node-lt-LEAST_KEY.false)
 
 pub part-requires-clause-in_grid : goal.part-requires-clause-in_grid
-part-requires-clause-in_grid c = (handed_on c.args.self.now c.args.node.now c.halves.result.0 c.halves.result.1 c.requires.fits (λ single. let no : false ≡ true = c.if-is_single.ensures.1 single in cc) c.halves.ensures).0.in_grid
+part-requires-clause-in_grid c = (handed_on c.args.self.now c.args.node.now c.halves.result.0 c.halves.result.1 c.requires.fits c.halves.ensures).0.in_grid
 
 pub part-requires-clause-over : goal.part-requires-clause-over
-part-requires-clause-over c = (handed_on c.args.self.now c.args.node.now c.halves.result.0 c.halves.result.1 c.requires.fits (λ single. let no : false ≡ true = c.if-is_single.ensures.1 single in cc) c.halves.ensures).0.over
+part-requires-clause-over c = (handed_on c.args.self.now c.args.node.now c.halves.result.0 c.halves.result.1 c.requires.fits c.halves.ensures).0.over
 
-pub part-requires-clause-positions : goal.part-requires-clause-positions
-part-requires-clause-positions c = (handed_on c.args.self.now c.args.node.now c.halves.result.0 c.halves.result.1 c.requires.fits (λ single. let no : false ≡ true = c.if-is_single.ensures.1 single in cc) c.halves.ensures).0.positions
+pub part-requires-clause-reaching : goal.part-requires-clause-reaching
+part-requires-clause-reaching c = (handed_on c.args.self.now c.args.node.now c.halves.result.0 c.halves.result.1 c.requires.fits c.halves.ensures).0.reaching
 
 pub part-requires-2-clause-in_grid : goal.part-requires-2-clause-in_grid
-part-requires-2-clause-in_grid c = (handed_on c.args.self.now c.args.node.now c.halves.result.0 c.halves.result.1 c.requires.fits (λ single. let no : false ≡ true = c.if-is_single.ensures.1 single in cc) c.halves.ensures).1.in_grid
+part-requires-2-clause-in_grid c = (handed_on c.args.self.now c.args.node.now c.halves.result.0 c.halves.result.1 c.requires.fits c.halves.ensures).1.in_grid
 
 pub part-requires-2-clause-over : goal.part-requires-2-clause-over
-part-requires-2-clause-over c = (handed_on c.args.self.now c.args.node.now c.halves.result.0 c.halves.result.1 c.requires.fits (λ single. let no : false ≡ true = c.if-is_single.ensures.1 single in cc) c.halves.ensures).1.over
+part-requires-2-clause-over c = (handed_on c.args.self.now c.args.node.now c.halves.result.0 c.halves.result.1 c.requires.fits c.halves.ensures).1.over
 
-pub part-requires-2-clause-positions : goal.part-requires-2-clause-positions
-part-requires-2-clause-positions c = (handed_on c.args.self.now c.args.node.now c.halves.result.0 c.halves.result.1 c.requires.fits (λ single. let no : false ≡ true = c.if-is_single.ensures.1 single in cc) c.halves.ensures).1.positions
+pub part-requires-2-clause-reaching : goal.part-requires-2-clause-reaching
+part-requires-2-clause-reaching c = (handed_on c.args.self.now c.args.node.now c.halves.result.0 c.halves.result.1 c.requires.fits c.halves.ensures).1.reaching
 
 pub returns-clause-step : goal.returns-clause-step
 returns-clause-step c =
