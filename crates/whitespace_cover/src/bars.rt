@@ -8,8 +8,9 @@ ghost use Rattle.whitespace_cover.specs.Bars.{IsJoint, LeaveSame, IsTurned};
 use layout_geom::{OutOfMemory, Rect, Rects};
 use std::alloc::Global;
 
-/// The rectangle round both, in the rows that they share, where fewer columns than the least size are
-/// between them, and these rows are at least half of the bar's.
+/// The joint of a bar and the next rectangle: in the rows that they share, from the left side of the bar to
+/// the right side of both. There is one where fewer columns than the least size are between them, and these
+/// rows are at least half of the bar's, rounded down.
 ///
 /// White space of the least size that reached into it would have to fit between the two.
 fn join(bar: &Rect, next: &Rect, least: u16) -> Option<Rect>

@@ -15,8 +15,8 @@ use std::alloc::Global;
 /// Each rectangle lies in the page, shares no pixel with a box or with a rectangle before it, and is at
 /// least `least` columns wide and `least` rows high. Of rectangles of one area the upper, then the left,
 /// then the narrower is taken. `least` is at least 1, `count` at most 256, and there are at most 60,000
-/// boxes. Every search starts from the whole page. The one refusal is want of memory, after which it may
-/// be called again.
+/// boxes. Every search starts from the whole page, behind bars in place of the boxes. The one refusal is
+/// want of memory, after which it may be called again.
 pub fn cover<F: Searcher>(
     alloc: Global,
     run: &F::Run,
