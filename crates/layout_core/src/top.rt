@@ -55,9 +55,9 @@ pub fn layout_alone<S: Source, K: Sink, E: Sink>(
 
     // 4 comes also exactly where more than 60,000 components are kept and the run reaches it, and the line counts them.
     ensures limited { result ≡ 4 → RefusesPage 4 (S.left src.old)
-            (E.written err.old) (E.written err.new) (E.faults err.old) (E.faults err.new)
+        (E.written err.old) (E.written err.new) (E.faults err.old) (E.faults err.new)
         ⊎ RefusesComponents (S.left src.old) (S.left src.new)
-            (E.written err.old) (E.written err.new) (E.faults err.old) (E.faults err.new) }
+        (E.written err.old) (E.written err.new) (E.faults err.old) (E.faults err.new) }
     ensures limit { HasPlan words.now → (input : List ℕ) (page : Page) (count : ℕ) → S.left src.old ≡ Some input → Spells input page
         → HasTooMany page count → ¬ Rose (S.faults src.old) (S.faults src.new) → (result ≡ 4) ⊎ (result ≡ 7) }
 
