@@ -100,11 +100,12 @@ const PADDING_BITS_DOCUMENT: &[u8] = b"\
 
 #[test]
 fn pages_give_their_documents_in_any_pieces(rt: HostRuntime) -> Result<(), Fail> {
-    let pages = [
+    let pages: [(&[u8], &[u8]); 5] = [
         (BLANK_PAGE, BLANK_PAGE_DOCUMENT),
         (CORNER_BLOCK, CORNER_BLOCK_DOCUMENT),
         (b"P4\n9 2\n\x00\x7f\x00\x7f", PADDING_BITS_DOCUMENT),
         (b"P4\n9 2\n\0\0\0\0", PADDING_BITS_DOCUMENT),
+        (b"P1\n9 2\n000000000\n000000000\n", PADDING_BITS_DOCUMENT),
     ];
     for piece in [1, 16, 4096] {
         for (input, document) in pages {
@@ -118,30 +119,52 @@ fn pages_give_their_documents_in_any_pieces(rt: HostRuntime) -> Result<(), Fail>
 }
 
 #[test]
-fn faults_of_the_input_have_their_places(rt: HostRuntime) -> Result<(), Fail> {
-    let faults: [(&[u8], &[u8]); 13] = [
-        (b"", b"bad page: magic at 0\n"),
-        (b"Q4", b"bad page: magic at 0\n"),
-        (b"P", b"bad page: magic at 1\n"),
-        (b"P5", b"bad page: magic at 1\n"),
-        (b"P1\n1 1\n0\n", b"bad page: header at 1\n"),
-        (b"P4", b"bad page: truncated at 2\n"),
-        (b"P4 16 16\n", b"bad page: header at 2\n"),
-        (b"P4\n0", b"bad page: header at 3\n"),
-        (b"P4\n4097 1\n", b"bad page: header at 6\n"),
-        (b"P4\n16", b"bad page: truncated at 5\n"),
-        (b"P4\n16 2\n\0\0\0", b"bad page: truncated at 11\n"),
-        (b"P4\n8 1\n\0\0", b"bad page: trailing at 8\n"),
-        (b"P4\n8 1\n\0\n", b"bad page: trailing at 8\n"),
+fn faults_of_the_input_have_their_statuses_and_lines(rt: HostRuntime) -> Result<(), Fail> {
+    let faults: [(&[u8], u8, &[u8]); 17] = [
+        (b"", 3, b"bad page: magic at 0\n"),
+        (b"Q4", 3, b"bad page: magic at 0\n"),
+        (b"P", 3, b"bad page: magic at 1\n"),
+        (b"P5", 3, b"bad page: magic at 1\n"),
+        (b"P4", 3, b"bad page: truncated at 2\n"),
+        (b"P48 1\n", 3, b"bad page: header at 2\n"),
+        (b"P4\n16 x", 3, b"bad page: header at 6\n"),
+        (b"P4\n8 1#c\n\0", 3, b"bad page: header at 6\n"),
+        (b"P4\n0 99999\n", 3, b"bad page: zero size\n"),
+        (b"P4\n16 2\n\0\0\0", 3, b"bad page: truncated at 11\n"),
+        (b"P1\n2 1\n0x", 3, b"bad page: pixel at 8\n"),
+        (b"P1\n1 1\n01", 3, b"bad page: trailing at 8\n"),
+        (b"P4\n8 1\n\0\0", 3, b"bad page: trailing at 8\n"),
+        (b"P4\n8193 1\n", 4, b"limit: size 8193 by 1\n"),
+        (b"P4\n8192 4097\n", 4, b"limit: size 8192 by 4097\n"),
+        (b"P4\n99999999999 1\n", 4, b"limit: size 999999999 by 1\n"),
+        (
+            b"P4\n99999999999 99999999999\n",
+            4,
+            b"limit: size 999999999 by 999999999\n",
+        ),
     ];
     for piece in [1, 16] {
-        for (input, line) in faults {
+        for (input, status, line) in faults {
             let outcome = run(rt.alloc(), &[], input, piece, &[], &[])?;
-            assert_eq!(rt; outcome.status, 3, "{input:?}");
+            assert_eq!(rt; outcome.status, status, "{input:?}");
             assert_eq!(rt; outcome.err.as_slice(), line, "{input:?}");
             assert_eq!(rt; outcome.out.calls, 0, "{input:?}");
         }
     }
+    Ok(())
+}
+
+#[test]
+fn a_header_over_65536_bytes_is_a_limit(rt: HostRuntime) -> Result<(), Fail> {
+    let mut input = b"P4".to_vec(rt.alloc())?;
+    input.resize(65_536, b' ')?;
+    input.extend_from_slice(b"8 1\n")?;
+    let outcome = run(rt.alloc(), &[], &input, 4096, &[], &[])?;
+    assert_eq!(rt; outcome.status, 4);
+    assert_eq!(rt;
+        outcome.err.as_slice(),
+        b"limit: header over 65536 bytes\n".as_slice()
+    );
     Ok(())
 }
 
@@ -178,7 +201,7 @@ fn more_than_60000_components_are_refused(rt: HostRuntime) -> Result<(), Fail> {
 fn no_read_is_made_once_a_fault_is_decided(rt: HostRuntime) -> Result<(), Fail> {
     let cases: [(&[u8], u64); 4] = [
         (b"Q4\n8 1\n\0", 1),
-        (b"P4\n0 1\n\0", 4),
+        (b"P4\n0 1\n\0", 7),
         (b"P4\n8 1\n\0\0\0\0", 9),
         (b"P4\n8 1\n\0", 9),
     ];

@@ -293,7 +293,7 @@ too_long front rest t reads le longer done =
     let all : first ++ (second ++ rest) ≡ front ++ rest = sym (append_assoc first second rest) ∙ ap (λ (l : List ℕ). l ++ rest) both in
     subst IsHeaderTooLong all
     (long_parts first second rest t (ap (λ (l : List ℕ). run next_state Magic l) both ∙ reads) len
-      (omega (arith, length-append second rest, length-append front rest, behind, longer, le)) (λ w. let lt = done w in omega (arith, behind, lt)))
+    (omega (arith, length-append second rest, length-append front rest, behind, longer, le)) (λ w. let lt = done w in omega (arith, behind, lt)))
 
 -- ---- the sizes
 

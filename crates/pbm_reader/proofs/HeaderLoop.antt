@@ -129,11 +129,11 @@ wrong_fails old middle new at byte state r took step low =
     let fault = wrong_byte state at in
     refused old new fault (wrong_other state at)
     (of_all (λ input. HasFault input fault) old new (r.taken ++ byte ∷ []) (took_more old middle new r.taken (byte ∷ []) r.took took)
-      (λ rest.
-        let P : List ℕ → Type 0 = λ l. HasFault l fault in
-        let here = wrong_fault r.taken byte rest state r.leads step (omega (arith, r.len, low)) in
-        subst P (sym (append_assoc r.taken (byte ∷ []) rest))
-        (has_fault (r.taken ++ byte ∷ rest) fault (subst (λ (n : ℕ). HasFaultWithin (r.taken ++ byte ∷ rest) (wrong_byte state n)) r.len here))))
+    (λ rest.
+    let P : List ℕ → Type 0 = λ l. HasFault l fault in
+    let here = wrong_fault r.taken byte rest state r.leads step (omega (arith, r.len, low)) in
+    subst P (sym (append_assoc r.taken (byte ∷ []) rest))
+    (has_fault (r.taken ++ byte ∷ rest) fault (subst (λ (n : ℕ). HasFaultWithin (r.taken ++ byte ∷ rest) (wrong_byte state n)) r.len here))))
 
 pub end_fails : (old middle new : Option (List ℕ)) (at : ℕ) (state : HeaderState) → IsReading old middle at state → TookAll middle new [] → at ≤ 65536
     → Refuses old new (missing_byte state at)
@@ -143,7 +143,7 @@ end_fails old middle new at state r took low =
     let here = missing_fault r.taken state r.leads (omega (arith, r.len, low)) in
     refused old new fault (missing_other state at)
     (of_end (λ input. HasFault input fault) old new (r.taken ++ []) (took_all old middle new r.taken [] r.took took)
-      (subst P (sym (append-nil r.taken)) (has_fault r.taken fault (subst (λ (n : ℕ). HasFaultWithin r.taken (missing_byte state n)) r.len here))))
+    (subst P (sym (append-nil r.taken)) (has_fault r.taken fault (subst (λ (n : ℕ). HasFaultWithin r.taken (missing_byte state n)) r.len here))))
 
 -- the name of a form was read
 named : (old now : Option (List ℕ)) (state : HeaderState) → (r : IsReading old now 65536 state) → IsNamed r.taken state
@@ -170,26 +170,28 @@ pub limit_more : (old middle new : Option (List ℕ)) (byte : ℕ) (state : Head
 limit_more old middle new byte state r took =
     of_all (λ input. IsHeaderTooLong input) old new (r.taken ++ byte ∷ []) (took_more old middle new r.taken (byte ∷ []) r.took took)
     (λ rest.
-      let P : List ℕ → Type 0 = λ l. IsHeaderTooLong l in
-      subst P (sym (append_assoc r.taken (byte ∷ []) rest))
-      (too_long r.taken (byte ∷ rest) state r.leads.reads (omega (arith, r.len)) (omega (arith, length-append r.taken (byte ∷ rest), r.len))
-        (λ w. absurd (not_both (is_whole state) w r.leads.open_yet))))
+    let P : List ℕ → Type 0 = λ l. IsHeaderTooLong l in
+    subst P (sym (append_assoc r.taken (byte ∷ []) rest))
+    (too_long r.taken (byte ∷ rest) state r.leads.reads (omega (arith, r.len)) (omega (arith, length-append r.taken (byte ∷ rest), r.len))
+    (λ w. absurd (not_both (is_whole state) w r.leads.open_yet))))
   where
     not_both : (b : Bool) → b ≡ true → b ≡ false → ⊥
     not_both b p q = cc
 
 -- a read that fails while a header is read decides nothing
 pub reading_undecided : (old new : Option (List ℕ)) (at : ℕ) (state : HeaderState) → IsReading old new at state → at ≤ 65536 → Refuses old new faults.ReadFault
-reading_undecided old new at state r low =
-    (r.taken, r.took,
-      elim (read_so_far r.taken state r.leads.reads) [
-        | inl m ↦ subst DecidesNothing (sym m.0) nothing_undecided
-        | inr m ↦
-            elim m [
-              | inl k ↦ subst DecidesNothing (sym k.0) letter_undecided
-              | inr n ↦ cut_undecided r.taken (length r.taken) (header_cut r.taken state r.leads n (omega (arith, r.len, low)))
-            ]
-      ])
+reading_undecided old new at state r low = (
+  r.taken,
+  r.took,
+  elim (read_so_far r.taken state r.leads.reads) [
+    | inl m ↦ subst DecidesNothing (sym m.0) nothing_undecided
+    | inr m ↦
+        elim m [
+          | inl k ↦ subst DecidesNothing (sym k.0) letter_undecided
+          | inr n ↦ cut_undecided r.taken (length r.taken) (header_cut r.taken state r.leads n (omega (arith, r.len, low)))
+        ]
+  ],
+)
 
 -- ---- the sizes
 
@@ -200,7 +202,7 @@ sizes_fail old new told fault t f =
     let here = subst Q t.height_told (subst P t.width_told f) in
     refused old new fault (other fault f)
     (of_all (λ input. HasFault input fault) old new t.bytes t.took
-      (λ rest. has_fault (t.bytes ++ rest) fault (size_fault t.bytes rest told.form t.width t.height fault t.is_header t.short here)))
+    (λ rest. has_fault (t.bytes ++ rest) fault (size_fault t.bytes rest told.form t.width t.height fault t.is_header t.short here)))
   where
     other : (k : PageFault) → IsSizeFault told.width told.height k → k ≡ faults.ReadFault → ⊥
     other faults.ZeroSize s e = cc

@@ -212,7 +212,7 @@ not_long input fault f l =
     let whole = l.whole in
     let P : List ℕ → Type 0 = λ k. HasFaultWithin k fault in
     l.undecided fault (λ rest. settled l.front l.behind rest fault l.len
-      (λ at e. let short = cut_len input fault at f e in omega (arith, short, ap length whole, length-append l.front l.behind, l.len, l.more)) (subst P whole f))
+    (λ at e. let short = cut_len input fault at f e in omega (arith, short, ap length whole, length-append l.front l.behind, l.len, l.more)) (subst P whole f))
 
 pub one_fault : (input : List ℕ) (f g : PageFault) → HasFault input f → HasFault input g → f ≡ g
 one_fault input f g x y = cases (within_or_long input f x) (within_or_long input g y)
@@ -305,11 +305,14 @@ raw_judged input header behind width height h short =
     let size = height * row_len width in
     let total : length input ≡ length header + length behind = ap length h.has_header.whole ∙ length-append header behind in
     elim (cases_lt (length behind) size) [
-      | inl fewer ↦ inr (faults.Truncated (length input), record {
+      | inl fewer ↦ inr (
+        faults.Truncated (length input),
+        record {
           end = refl;
           short = short;
           part = inr (record { form = Raw; width = width; height = height; header = header; behind = behind; has_header = h; begins = raw_begins width height behind fewer });
-        })
+        },
+      )
       | inr enough ↦
           elim (cases_lt size (length behind)) [
             | inl longer ↦ by_rest (take size behind) (drop size behind) (take-append-drop size behind) (length-take-le size behind enough) (omega (arith, length-drop size behind, longer)) total
@@ -317,17 +320,20 @@ raw_judged input header behind width height h short =
                 let same : length behind ≡ size = omega (arith, enough, no_more) in
                 let all : behind ≡ behind ++ [] = sym (append-nil behind) in
                 let P : List ℕ → Type 0 = λ l. HasHeader input header l Raw width height in
-                inl (raster_page width height behind, record {
-                  form = Raw;
-                  header = header;
-                  raster = behind;
-                  tail = [];
-                  has_header = subst P all h.has_header;
-                  size = h.size;
-                  rows = (same, refl);
-                  follows = tt;
-                  short = short;
-                })
+                inl (
+                  raster_page width height behind,
+                  record {
+                    form = Raw;
+                    header = header;
+                    raster = behind;
+                    tail = [];
+                    has_header = subst P all h.has_header;
+                    size = h.size;
+                    rows = (same, refl);
+                    follows = tt;
+                    short = short;
+                  },
+                )
           ]
     ]
   where
@@ -335,20 +341,23 @@ raw_judged input header behind width height h short =
     by_rest raster [] e len some total = absurd (omega (arith, some))
     by_rest raster (byte ∷ rest) e len some total =
         let P : List ℕ → Type 0 = λ l. HasPageHeader input header l Raw width height in
-        inr (faults.Trailing (length header + length raster), record {
-          form = Raw;
-          width = width;
-          height = height;
-          header = header;
-          raster = raster;
-          byte = byte;
-          more = rest;
-          has_header = subst P (sym e) h;
-          is_raster = len;
-          refused = λ f. f;
-          place_is = refl;
-          low = omega (arith, total, ap length e, length-append raster (byte ∷ rest), short);
-        })
+        inr (
+          faults.Trailing (length header + length raster),
+          record {
+            form = Raw;
+            width = width;
+            height = height;
+            header = header;
+            raster = raster;
+            byte = byte;
+            more = rest;
+            has_header = subst P (sym e) h;
+            is_raster = len;
+            refused = λ f. f;
+            place_is = refl;
+            low = omega (arith, total, ap length e, length-append raster (byte ∷ rest), short);
+          },
+        )
 
 -- a plain raster that begins with these bytes, which lead to an open state
 pub plain_begins : (width height : ℕ) (part : List ℕ) (t : RasterState) → IsOpen (raster_machine (height * width)) part t → IsFrontOf (IsRaster Plain width height) part
@@ -373,17 +382,20 @@ plain_judged input header behind width height h short = cases (reached raster_st
     page : (front rest pixels : List ℕ) → behind ≡ front ++ rest → SpellsPixels pixels front → length pixels ≡ height * width → MayFollow Plain rest → JudgedWithin input
     page front rest pixels e spelled len follows =
         let has = subst P e h in
-        inl (pixels_page width height pixels, record {
-          form = Plain;
-          header = header;
-          raster = front;
-          tail = rest;
-          has_header = has.has_header;
-          size = has.size;
-          rows = (pixels, len, spelled, refl);
-          follows = follows;
-          short = short;
-        })
+        inl (
+          pixels_page width height pixels,
+          record {
+            form = Plain;
+            header = header;
+            raster = front;
+            tail = rest;
+            has_header = has.has_header;
+            size = has.size;
+            rows = (pixels, len, spelled, refl);
+            follows = follows;
+            short = short;
+          },
+        )
 
     behind_raster : (front rest pixels : List ℕ) → behind ≡ front ++ rest → SpellsPixels pixels front → length pixels ≡ height * width → JudgedWithin input
     behind_raster front [] pixels e spelled len = page front [] pixels e spelled len tt
@@ -392,20 +404,23 @@ plain_judged input header behind width height h short = cases (reached raster_st
         by_white : (b : Bool) → is_white byte ≡ b → JudgedWithin input
         by_white true w = page front (byte ∷ rest) pixels e spelled len w
         by_white false w =
-            inr (faults.Trailing (length header + length front), record {
-              form = Plain;
-              width = width;
-              height = height;
-              header = header;
-              raster = front;
-              byte = byte;
-              more = rest;
-              has_header = subst P e h;
-              is_raster = (pixels, len, spelled);
-              refused = λ t. not_both (is_white byte) t w;
-              place_is = refl;
-              low = omega (arith, total, ap length e, length-append front (byte ∷ rest), short);
-            })
+            inr (
+              faults.Trailing (length header + length front),
+              record {
+                form = Plain;
+                width = width;
+                height = height;
+                header = header;
+                raster = front;
+                byte = byte;
+                more = rest;
+                has_header = subst P e h;
+                is_raster = (pixels, len, spelled);
+                refused = λ t. not_both (is_white byte) t w;
+                place_is = refl;
+                low = omega (arith, total, ap length e, length-append front (byte ∷ rest), short);
+              },
+            )
           where
             not_both : (b : Bool) → b ≡ true → b ≡ false → ⊥
             not_both b p q = cc
@@ -413,32 +428,38 @@ plain_judged input header behind width height h short = cases (reached raster_st
     in_raster : (front rest : List ℕ) (t : RasterState) → behind ≡ front ++ rest → IsOpen (raster_machine (height * width)) front t → IsStuck raster_step t rest → JudgedWithin input
     in_raster front [] t e o stays =
         let all : behind ≡ front = e ∙ append-nil front in
-        inr (faults.Truncated (length input), record {
-          end = refl;
-          short = short;
-          part = inr (record {
-            form = Plain;
+        inr (
+          faults.Truncated (length input),
+          record {
+            end = refl;
+            short = short;
+            part = inr (record {
+              form = Plain;
+              width = width;
+              height = height;
+              header = header;
+              behind = front;
+              has_header = subst P all h;
+              begins = plain_begins width height front t o;
+            });
+          },
+        )
+    in_raster front (byte ∷ rest) t e o stays =
+        inr (
+          faults.Pixel (length header + length front),
+          record {
             width = width;
             height = height;
             header = header;
-            behind = front;
-            has_header = subst P all h;
-            begins = plain_begins width height front t o;
-          });
-        })
-    in_raster front (byte ∷ rest) t e o stays =
-        inr (faults.Pixel (length header + length front), record {
-          width = width;
-          height = height;
-          header = header;
-          behind = front ++ byte ∷ rest;
-          has_header = subst P e h;
-          place = length front;
-          stops = stops_map (IsRead (raster_machine (height * width))) T (front ++ byte ∷ rest) (length front) (λ l r. read_is_raster width height l r) (λ l r. raster_is_read width height l r)
-            (stops_of (raster_machine (height * width)) front byte rest t o stays);
-          place_is = refl;
-          low = omega (arith, total, ap length e, length-append front (byte ∷ rest), short);
-        })
+            behind = front ++ byte ∷ rest;
+            has_header = subst P e h;
+            place = length front;
+            stops = stops_map (IsRead (raster_machine (height * width))) T (front ++ byte ∷ rest) (length front) (λ l r. read_is_raster width height l r) (λ l r. raster_is_read width height l r)
+                (stops_of (raster_machine (height * width)) front byte rest t o stays);
+            place_is = refl;
+            low = omega (arith, total, ap length e, length-append front (byte ∷ rest), short);
+          },
+        )
 
     cases : Reached raster_step (wanted (height * width) []) behind → JudgedWithin input
     cases r = by_state (is_done r.last) refl
@@ -482,14 +503,19 @@ header_judged header behind form width height h short all =
       | inl size ↦ sized_judged (header ++ behind) header behind form width height (record { has_header = record { whole = refl; is_header = h; short = short }; size = size }) all
       | inr other ↦
           elim other [
-            | inl zero ↦ inr (faults.ZeroSize, record {
+            | inl zero ↦ inr (
+              faults.ZeroSize,
+              record {
                 form = form;
                 width = width;
                 height = height;
                 sizes = record { header = header; behind = behind; has_header = record { whole = refl; is_header = h; short = short } };
                 zero = zero;
-              })
-            | inr large ↦ inr (faults.TooLarge (min width 999999999) (min height 999999999), record {
+              },
+            )
+            | inr large ↦ inr (
+              faults.TooLarge (min width 999999999) (min height 999999999),
+              record {
                 form = form;
                 width = width;
                 height = height;
@@ -499,7 +525,8 @@ header_judged header behind form width height h short all =
                 large = large.2;
                 width_told = refl;
                 height_told = refl;
-              })
+              },
+            )
           ]
     ]
 
@@ -552,7 +579,7 @@ judged input =
           ]
       | inl longer ↦
           inr (subst (λ (l : List ℕ). (fault : PageFault) × HasFault l fault) (take-append-drop 268435456 input)
-            (by_front (take 268435456 input) (drop 268435456 input) (length-take-le 268435456 input (omega (arith, longer))) (omega (arith, length-drop 268435456 input, longer))))
+          (by_front (take 268435456 input) (drop 268435456 input) (length-take-le 268435456 input (omega (arith, longer))) (omega (arith, length-drop 268435456 input, longer))))
     ]
   where
     is_cut : (fault : PageFault) → ((at : ℕ) × (fault ≡ faults.Truncated at)) ⊎ ((at : ℕ) → fault ≡ faults.Truncated at → ⊥)

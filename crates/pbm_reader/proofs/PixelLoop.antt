@@ -25,9 +25,9 @@ are_more (first ∷ pieces) piece are is = (are.0, are_more pieces piece are.1 i
 
 blank_more : (blank piece : List ℕ) → IsBlank blank → IsWhite piece ⊎ IsComment piece → IsBlank (blank ++ piece)
 blank_more blank piece b is = (
-    b.0 ++ piece ∷ [],
-    are_more b.0 piece b.1 is,
-    ap (λ (l : List ℕ). l ++ piece) b.2 ∙ ap (λ (l : List ℕ). concat b.0 ++ l) (sym (append-nil piece)) ∙ sym (concat-append b.0 (piece ∷ [])),
+  b.0 ++ piece ∷ [],
+  are_more b.0 piece b.1 is,
+  ap (λ (l : List ℕ). l ++ piece) b.2 ∙ ap (λ (l : List ℕ). concat b.0 ++ l) (sym (append-nil piece)) ∙ sym (concat-append b.0 (piece ∷ [])),
 )
 
 line_more : (text : List ℕ) (byte : ℕ) → AreInLine text → is_line_end byte ≡ false → AreInLine (text ++ byte ∷ [])
@@ -154,12 +154,12 @@ between_long old middle new start at byte in_comment b took limit =
 pub spelled_more : (a b x y : List ℕ) → SpellsPixels a x → SpellsPixels b y → SpellsPixels (a ++ b) (x ++ y)
 spelled_more [] b x y s t = subst (λ (l : List ℕ). SpellsPixels b (l ++ y)) (sym s) t
 spelled_more (pixel ∷ a) b x y s t = (
-    s.0,
-    s.1 ++ y,
-    ap (λ (l : List ℕ). l ++ y) s.2 ∙ append_assoc s.0 ((48 + pixel) ∷ s.1) y,
-    s.3,
-    s.4,
-    spelled_more a b s.1 y s.5 t,
+  s.0,
+  s.1 ++ y,
+  ap (λ (l : List ℕ). l ++ y) s.2 ∙ append_assoc s.0 ((48 + pixel) ∷ s.1) y,
+  s.3,
+  s.4,
+  spelled_more a b s.1 y s.5 t,
 )
 
 pub took_pixels : (old middle new : Option (List ℕ)) (start at end : ℕ) (a b : List ℕ) → TookPixels old middle start at a → TookPixels middle new at end b → TookPixels old new start end (a ++ b)
@@ -190,13 +190,24 @@ pub pixels_fail : (old middle new : Option (List ℕ)) (start at n count : ℕ) 
 pixels_fail old middle new start at n count a (faults.Truncated end) p le f =
     (f.0, p.bytes ++ f.1, took_all old middle new p.bytes f.1 p.took f.2, begun_more a p.bytes n count f.0 f.1 p.spelled le f.3, omega (arith, p.end_is, f.4, length-append p.bytes f.1), f.5)
 pixels_fail old middle new start at n count a (faults.Pixel place) p le f =
-    let all = append_assoc p.bytes f.0 (f.1 ∷ []) in
-    (p.bytes ++ f.0, f.1, subst (λ (l : List ℕ). Took old new l) (sym all) (took_more old middle new p.bytes (f.0 ++ f.1 ∷ []) p.took f.2),
-      begun_more a p.bytes n count false f.0 p.spelled le f.3, f.4, omega (arith, p.end_is, f.5, length-append p.bytes f.0), f.6)
+    let all = append_assoc p.bytes f.0 (f.1 ∷ []) in (
+      p.bytes ++ f.0,
+      f.1,
+      subst (λ (l : List ℕ). Took old new l) (sym all) (took_more old middle new p.bytes (f.0 ++ f.1 ∷ []) p.took f.2),
+      begun_more a p.bytes n count false f.0 p.spelled le f.3,
+      f.4,
+      omega (arith, p.end_is, f.5, length-append p.bytes f.0),
+      f.6,
+    )
 pixels_fail old middle new start at n count a faults.InputTooLong p le f =
-    let all = append_assoc p.bytes f.1 (f.2 ∷ []) in
-    (f.0, p.bytes ++ f.1, f.2, subst (λ (l : List ℕ). Took old new l) (sym all) (took_more old middle new p.bytes (f.1 ++ f.2 ∷ []) p.took f.3),
-      begun_more a p.bytes n count f.0 f.1 p.spelled le f.4, omega (arith, p.end_is, f.5, length-append p.bytes f.1))
+    let all = append_assoc p.bytes f.1 (f.2 ∷ []) in (
+      f.0,
+      p.bytes ++ f.1,
+      f.2,
+      subst (λ (l : List ℕ). Took old new l) (sym all) (took_more old middle new p.bytes (f.1 ++ f.2 ∷ []) p.took f.3),
+      begun_more a p.bytes n count f.0 f.1 p.spelled le f.4,
+      omega (arith, p.end_is, f.5, length-append p.bytes f.1),
+    )
 pixels_fail old middle new start at n count a faults.ReadFault p le f =
     (f.0, p.bytes ++ f.1, took_more old middle new p.bytes f.1 p.took f.2, begun_more a p.bytes n count f.0 f.1 p.spelled le f.3, omega (arith, p.end_is, f.4, length-append p.bytes f.1))
 pixels_fail old middle new start at n count a faults.Memory p le f = tt

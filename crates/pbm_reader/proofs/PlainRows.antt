@@ -103,7 +103,7 @@ raster_wrong width height bytes byte b wrong rest r =
         let k = height * width - (length b.pixels + 1) in
         let o = begun_open (height * width) false bytes b in
         none_some t.0 (sym (run_append raster_step (wanted (height * width) []) (part_state false k b.pixels) bytes (byte ∷ rest) o.reads
-          ∙ ap (λ (s : Option RasterState). option_and_then (λ n. run raster_step n rest) s) (wrong_stops k b.pixels byte wrong)) ∙ t.1)
+        ∙ ap (λ (s : Option RasterState). option_and_then (λ n. run raster_step n rest) s) (wrong_stops k b.pixels byte wrong)) ∙ t.1)
 
 -- why pixels were not read is why the raster was not read
 raster_fails : (old new : Option (List ℕ)) (width height start : ℕ) (fault : PageFault) → PixelsFail old new start (height * width) fault → RasterFails old new Plain width height start fault

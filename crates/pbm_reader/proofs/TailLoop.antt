@@ -62,10 +62,18 @@ tail_fails old middle new form start byte faults.InputTooLong took follows low f
     let room = 268435456 - (start + 1) in
     let front = take room f.0 in
     let behind = drop room f.0 in
-    let more = f.2 in
-    (byte ∷ f.0, took_more old middle new (byte ∷ []) f.0 took f.1,
-      (byte ∷ front, behind, ap (λ (l : List ℕ). byte ∷ l) (sym (take-append-drop room f.0)), follows_more form byte front follows,
-        omega (arith, length-take-le room f.0 (omega (arith, more, low)), low), omega (arith, length-drop room f.0, more, low)))
+    let more = f.2 in (
+      byte ∷ f.0,
+      took_more old middle new (byte ∷ []) f.0 took f.1,
+      (
+        byte ∷ front,
+        behind,
+        ap (λ (l : List ℕ). byte ∷ l) (sym (take-append-drop room f.0)),
+        follows_more form byte front follows,
+        omega (arith, length-take-le room f.0 (omega (arith, more, low)), low),
+        omega (arith, length-drop room f.0, more, low),
+      ),
+    )
 tail_fails old middle new form start byte faults.ReadFault took follows low f =
     let fits = f.2 in
     (byte ∷ f.0, took_more old middle new (byte ∷ []) f.0 took f.1, follows_more form byte f.0 follows, omega (arith, fits))

@@ -224,8 +224,8 @@ too_long_verdict input f =
     ap verdict all
     ∙ verdict_at (f.front ++ r.front) r.rest r.last goes r.stays
     ∙ long_verdict (length (f.front ++ r.front)) r.last r.rest (omega (arith, len, f.len))
-      (λ none. omega (arith, len, f.len, f.more, ap length r.whole, length-append r.front r.rest, ap length none))
-      (λ done. omega (arith, len, f.len, moved t.0 r.last r.front t.1.open_yet done r.reads))
+    (λ none. omega (arith, len, f.len, f.more, ap length r.whole, length-append r.front r.rest, ap length none))
+    (λ done. omega (arith, len, f.len, moved t.0 r.last r.front t.1.open_yet done r.reads))
   where
     some_is : (a b : HeaderState) → (let o : Option HeaderState = Some a in o) ≡ Some b → a ≡ b
     some_is a b e = cc

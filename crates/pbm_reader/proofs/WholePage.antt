@@ -68,9 +68,9 @@ long : (old new : Option (List ℕ)) (front behind taken : List ℕ) → Took ol
 long old new front behind taken took split len more part =
     of_all (λ input. IsInputTooLong input) old new taken took
     (λ rest.
-      let all : taken ++ rest ≡ front ++ (behind ++ rest) = ap (λ (l : List ℕ). l ++ rest) split ∙ append_assoc front behind rest in
-      let P : List ℕ → Type 0 = λ l. IsInputTooLong l in
-      subst P (sym all) (long_fault front (behind ++ rest) len (omega (arith, more, length-append behind rest)) part))
+    let all : taken ++ rest ≡ front ++ (behind ++ rest) = ap (λ (l : List ℕ). l ++ rest) split ∙ append_assoc front behind rest in
+    let P : List ℕ → Type 0 = λ l. IsInputTooLong l in
+    subst P (sym all) (long_fault front (behind ++ rest) len (omega (arith, more, length-append behind rest)) part))
 
 pub raster_refuses : (old middle new : Option (List ℕ)) (header : Header) (fault : PageFault) → TookHeader old middle header
     → RasterFails middle new header.form header.size.width header.size.height header.len fault → Refuses old new fault
@@ -86,9 +86,11 @@ raster_refuses old middle new header faults.InputTooLong t f =
     (sym (append_assoc t.bytes f.0 (f.1 ∷ []))) total (omega arith)
     (inr (268435456, cut header t.bytes f.0 268435456 t.is_header t.size t.short f.3 (omega (arith, f.4, t.len)) (omega arith)))
 raster_refuses old middle new header faults.ReadFault t f =
-    let low = f.3 in
-    (t.bytes ++ f.0, took_more old middle new t.bytes f.0 t.took f.1,
-      cut_undecided (t.bytes ++ f.0) (length t.bytes + length f.0) (cut header t.bytes f.0 (length t.bytes + length f.0) t.is_header t.size t.short f.2 refl (omega (arith, low, t.len))))
+    let low = f.3 in (
+      t.bytes ++ f.0,
+      took_more old middle new t.bytes f.0 t.took f.1,
+      cut_undecided (t.bytes ++ f.0) (length t.bytes + length f.0) (cut header t.bytes f.0 (length t.bytes + length f.0) t.is_header t.size t.short f.2 refl (omega (arith, low, t.len))),
+    )
 raster_refuses old middle new header faults.Memory t f = tt
 raster_refuses old middle new header (faults.Magic at) t f = absurd f
 raster_refuses old middle new header (faults.Header at) t f = absurd f
@@ -167,7 +169,7 @@ tail_refuses given old middle later new header end empty after (faults.Trailing 
     let low = f.4 in
     subst P (sym f.3)
     (of_all (λ input. IsTrailing input end) old new (t.bytes ++ (r.raster ++ f.0 ∷ [])) (took_three old middle later new t.bytes r.raster (f.0 ∷ []) t.took r.took f.1)
-      (λ rest. trailing given old middle later header end empty after f.0 rest t r f.2 (omega (arith, f.3, low))))
+    (λ rest. trailing given old middle later header end empty after f.0 rest t r f.2 (omega (arith, f.3, low))))
 tail_refuses given old middle later new header end empty after faults.InputTooLong t r f =
     let past = f.2 in
     let front = t.bytes ++ (r.raster ++ past.0) in
@@ -176,9 +178,11 @@ tail_refuses given old middle later new header end empty after faults.InputTooLo
     let total : length front ≡ 268435456 = omega (arith, length-append t.bytes (r.raster ++ past.0), length-append r.raster past.0, past.4, r.end_is, t.len) in
     long old new front past.1 (t.bytes ++ (r.raster ++ f.0)) (took_three old middle later new t.bytes r.raster f.0 t.took r.took f.1) split total past.5
     (inl (r.page, spells given old middle later header end empty after past.0 t r past.3 (omega (arith, past.4))))
-tail_refuses given old middle later new header end empty after faults.ReadFault t r f =
-    (t.bytes ++ (r.raster ++ f.0), took_three old middle later new t.bytes r.raster f.0 t.took r.took f.1,
-      page_undecided (t.bytes ++ (r.raster ++ f.0)) (r.page, spells given old middle later header end empty after f.0 t r f.2 f.3))
+tail_refuses given old middle later new header end empty after faults.ReadFault t r f = (
+  t.bytes ++ (r.raster ++ f.0),
+  took_three old middle later new t.bytes r.raster f.0 t.took r.took f.1,
+  page_undecided (t.bytes ++ (r.raster ++ f.0)) (r.page, spells given old middle later header end empty after f.0 t r f.2 f.3),
+)
 tail_refuses given old middle later new header end empty after (faults.Magic at) t r f = absurd f
 tail_refuses given old middle later new header end empty after (faults.Header at) t r f = absurd f
 tail_refuses given old middle later new header end empty after faults.HeaderTooLong t r f = absurd f
@@ -224,9 +228,15 @@ top_rows begun given unchanged old middle header before empty after t b g =
 all_top : (form : Form) (page : Page) (width height : ℕ) (raster rest : List ℕ) → page.width ≡ width → page.height ≡ height → SpellsRows form page raster
     → HasTopRows form width height (raster ++ rest) height page
 all_top Plain page width height raster rest wide high rows =
-    let same : height * width ≡ page.height * page.width = sym (ap (λ (n : ℕ). n * page.width) high ∙ ap (λ (n : ℕ). height * n) wide) in
-    (rows.0, raster, rest, refl, rows.2, omega (arith, rows.1, same),
-      rows.3 ∙ ap (λ (n : ℕ). pixels_page n page.height rows.0) wide ∙ ap (λ (n : ℕ). pixels_page width n rows.0) high)
+    let same : height * width ≡ page.height * page.width = sym (ap (λ (n : ℕ). n * page.width) high ∙ ap (λ (n : ℕ). height * n) wide) in (
+      rows.0,
+      raster,
+      rest,
+      refl,
+      rows.2,
+      omega (arith, rows.1, same),
+      rows.3 ∙ ap (λ (n : ℕ). pixels_page n page.height rows.0) wide ∙ ap (λ (n : ℕ). pixels_page width n rows.0) high,
+    )
 all_top Raw page width height raster rest wide high rows =
     let same : height * row_len width ≡ page.height * row_len page.width = sym (ap (λ (n : ℕ). n * row_len page.width) high ∙ ap (λ (n : ℕ). height * row_len n) wide) in
     (raster, rest, refl, omega (arith, rows.0, same), rows.1 ∙ ap (λ (n : ℕ). raster_page n page.height raster) wide ∙ ap (λ (n : ℕ). raster_page width n raster) high)

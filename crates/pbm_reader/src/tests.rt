@@ -1,8 +1,13 @@
-//! A page read into a sink of the tests, which keeps the rows and can refuse one.
+//! Pages read into a sink of the tests, which keeps the rows and can refuse one.
 ghost use Rattle.std.specs.Prelude.{◌≡◌, ◌-◌, ◌<◌, ◌≤◌};
 
+mod judge;
+mod spaces;
+
 use crate::{OutOfMemory, PageFault, RowSink, Size, each_input_is_judged, read_page};
+use judge::judged;
 use layout_outside::MemSource;
+use spaces::Spaces;
 use std::alloc::{AllocError, Global};
 use std::test::Fail;
 
@@ -59,46 +64,192 @@ impl RowSink for Rows {
     }
 }
 
-fn read(
-    alloc: Global,
-    input: &[u8],
-    piece: usize,
-    refuses: u16,
-) -> Result<(Result<Size, PageFault>, Rows), Fail>
+// What a reading of these bytes answered, the rows that it gave, and how many reads it made.
+#[derive(Drop)]
+struct Outcome {
+    result: Result<Size, PageFault>,
+    rows: Rows,
+    reads: u64,
+}
+
+fn read(alloc: Global, input: &[u8], piece: usize, refuses: u16) -> Result<Outcome, Fail>
     requires { 0 < piece }
 {
     let mut src = MemSource::new(input.to_vec(alloc)?, piece, Vec::new(alloc));
     let mut rows = Rows::new(alloc, refuses);
     let result = read_page(alloc, &mut src, &mut rows);
-    Ok((result, rows))
+    let reads = src.calls;
+    Ok(Outcome {
+        result,
+        rows,
+        reads,
+    })
+}
+
+fn size(width: u16, height: u16) -> Result<Size, PageFault> {
+    Ok(Size { width, height })
 }
 
 #[test]
-fn rows_come_from_the_top_with_their_padding_cleared(rt: HostRuntime) -> Result<(), Fail> {
-    for piece in [1, 3, 100] {
-        let (result, rows) = read(
-            rt.alloc(),
+fn pages_give_their_rows_with_their_padding_cleared(rt: HostRuntime) -> Result<(), Fail> {
+    let pages: [(&[u8], u16, u16, &[u8]); 13] = [
+        (
             b"P4\n9 3\n\x01\xff\x80\x7f\xff\x80",
-            piece,
-            u16::MAX,
-        )?;
-        let size = Size {
-            width: 9,
-            height: 3,
-        };
-        assert_eq!(rt; result, Ok(size), "piece {piece}");
-        assert_eq!(rt;
-            rows.bytes.as_slice(),
-            b"\x01\x80\x80\0\xff\x80".as_slice(),
-            "piece {piece}"
-        );
+            9,
+            3,
+            b"\x01\x80\x80\0\xff\x80",
+        ),
+        // one white pixel
+        (b"P1\n1 1\n0\n", 1, 1, b"\0"),
+        // plain PBM with comments
+        (
+            b"P1\r\n#c\r\n3#w\n2\r\n101\n0 1#x\n0\njunk",
+            3,
+            2,
+            b"\xa0\x40",
+        ),
+        // the header that GIMP writes, in both forms
+        (
+            b"P4\n# CREATOR: GIMP PNM Filter Version 1.1\n8 1\n\xaa",
+            8,
+            1,
+            b"\xaa",
+        ),
+        (
+            b"P1\n# Created by GIMP version 2.10.34 PNM plug-in\n8 1\n10101010\n",
+            8,
+            1,
+            b"\xaa",
+        ),
+        // Netpbm's own plain files, and the example of its manual page
+        (b"P1\n10 1\n0110011001\n", 10, 1, b"\x66\x40"),
+        (
+            b"P1\n# feep.pbm\n6 2\n0 1 1 1 1 0\n0 1 0 0 0 0\n",
+            6,
+            2,
+            b"\x78\x40",
+        ),
+        // lines that end as on Windows
+        (b"P1\r\n2 2\r\n0 1\r\n1 0\r\n", 2, 2, b"\x40\x80"),
+        // the carriage return ends the header, and the line feed is raster
+        (b"P4\n8 1\r\n", 8, 1, b"\n"),
+        (b"P4 0008\t#\r01 \xff", 8, 1, b"\xff"),
+        // no white byte has to stand between pixels, and a comment may
+        (b"P1 3 1\n#1\n01#\r1", 3, 1, b"\x60"),
+        (b"P1 1 1 1", 1, 1, b"\x80"),
+        (b"P1 1 1 1 #", 1, 1, b"\x80"),
+    ];
+    for piece in [1, 3, 100] {
+        for (input, width, height, bytes) in pages {
+            let outcome = read(rt.alloc(), input, piece, u16::MAX)?;
+            assert_eq!(rt;
+                outcome.result,
+                size(width, height),
+                "{input:?}, piece {piece}"
+            );
+            assert_eq!(rt;
+                outcome.rows.bytes.as_slice(),
+                bytes,
+                "{input:?}, piece {piece}"
+            );
+        }
+    }
+    Ok(())
+}
+
+#[test]
+fn faults_of_headers_and_rasters_have_their_places(rt: HostRuntime) -> Result<(), Fail> {
+    let faults: [(&[u8], PageFault, u64); 40] = [
+        (b"", PageFault::Magic { at: 0 }, 1),
+        (b"Q4", PageFault::Magic { at: 0 }, 1),
+        (b"P", PageFault::Magic { at: 1 }, 2),
+        (b"P5 1 1\n", PageFault::Magic { at: 1 }, 2),
+        (b"P4", PageFault::Truncated { at: 2 }, 3),
+        (b"P48 1\n", PageFault::Header { at: 2 }, 3),
+        (b"P4\n0", PageFault::Truncated { at: 4 }, 5),
+        (b"P4\n16", PageFault::Truncated { at: 5 }, 6),
+        (b"P4\n16 x", PageFault::Header { at: 6 }, 7),
+        (b"P4 16 16\n", PageFault::Truncated { at: 9 }, 10),
+        (b"P4\n4097 1\n", PageFault::Truncated { at: 10 }, 11),
+        (b"P4\n-8 1\n", PageFault::Header { at: 3 }, 4),
+        (b"P4\n8 1#c\n\0", PageFault::Header { at: 6 }, 7),
+        (b"P4\n8 1.", PageFault::Header { at: 6 }, 7),
+        (b"P4\n#c", PageFault::Truncated { at: 5 }, 6),
+        (b"P4\n#c\n#8 1\n", PageFault::Truncated { at: 11 }, 12),
+        (b"P1\n#c\n\x0b1 1\n", PageFault::Header { at: 6 }, 7),
+        (b"P4\n0 99999\n\0", PageFault::ZeroSize, 11),
+        (b"P4\n99999 0\n\0", PageFault::ZeroSize, 11),
+        (b"P1\n000 1\n", PageFault::ZeroSize, 9),
+        (
+            b"P4\n8193 1\n\0",
+            PageFault::TooLarge {
+                width: 8193,
+                height: 1,
+            },
+            10,
+        ),
+        (
+            b"P4\n1 8193\n\0",
+            PageFault::TooLarge {
+                width: 1,
+                height: 8193,
+            },
+            10,
+        ),
+        (
+            b"P1\n8192 4097\n0",
+            PageFault::TooLarge {
+                width: 8192,
+                height: 4097,
+            },
+            13,
+        ),
+        (
+            b"P4\n99999999999 1\n",
+            PageFault::TooLarge {
+                width: 999_999_999,
+                height: 1,
+            },
+            17,
+        ),
+        (
+            b"P4\n1 4294967297\n",
+            PageFault::TooLarge {
+                width: 1,
+                height: 999_999_999,
+            },
+            16,
+        ),
+        (b"P4\n16 2\n\0\0\0", PageFault::Truncated { at: 11 }, 12),
+        (b"P4\n8 1\n\0\0", PageFault::Trailing { at: 8 }, 9),
+        (b"P4\n8 1\n\0\n", PageFault::Trailing { at: 8 }, 9),
+        (b"P4\n8 1\n\0P4\n8 1\n\0", PageFault::Trailing { at: 8 }, 9),
+        (b"P1\n2 1\n", PageFault::Truncated { at: 7 }, 8),
+        (b"P1\n2 1\n0", PageFault::Truncated { at: 8 }, 9),
+        (b"P1\n2 1\n0#1", PageFault::Truncated { at: 10 }, 11),
+        (b"P1\n2 1\n0x", PageFault::Pixel { at: 8 }, 9),
+        (b"P1\n2 1\n2", PageFault::Pixel { at: 7 }, 8),
+        (b"P1\n2 1\n#\n\n0\0", PageFault::Pixel { at: 11 }, 12),
+        (b"P1\n1 1\n01", PageFault::Trailing { at: 8 }, 9),
+        (b"P1\n1 1\n0#", PageFault::Trailing { at: 8 }, 9),
+        (b"P1\n1 1\n0\0", PageFault::Trailing { at: 8 }, 9),
+        (b"P1\n1 1\n#0", PageFault::Truncated { at: 9 }, 10),
+        (b"P1\n1 1#\n0", PageFault::Header { at: 6 }, 7),
+    ];
+    // No read is made once a fault is decided.
+    for (input, fault, reads) in faults {
+        let outcome = read(rt.alloc(), input, 1, u16::MAX)?;
+        assert_eq!(rt; outcome.result, Err(fault), "{input:?}");
+        assert_eq!(rt; outcome.reads, reads, "{input:?}");
+        let outcome = read(rt.alloc(), input, 100, u16::MAX)?;
+        assert_eq!(rt; outcome.result, Err(fault), "{input:?}");
     }
     Ok(())
 }
 
 #[test]
 fn a_fault_leaves_the_top_rows(rt: HostRuntime) -> Result<(), Fail> {
-    let cases: [(&[u8], u16, PageFault, &[u8]); 4] = [
+    let cases: [(&[u8], u16, PageFault, &[u8]); 7] = [
         (
             b"P4\n8 3\n\x01\x02",
             u16::MAX,
@@ -118,11 +269,123 @@ fn a_fault_leaves_the_top_rows(rt: HostRuntime) -> Result<(), Fail> {
             b"\x01",
         ),
         (b"P4\n8 3\n\x01\x02\x03", 2, PageFault::Memory, b"\x01\x02"),
+        (
+            b"P1\n2 2\n110x",
+            u16::MAX,
+            PageFault::Pixel { at: 10 },
+            b"\xc0",
+        ),
+        (
+            b"P1\n2 2\n1101x",
+            u16::MAX,
+            PageFault::Trailing { at: 11 },
+            b"\xc0\x40",
+        ),
+        (b"P1\n2 2\n1101 x", 1, PageFault::Memory, b"\xc0"),
     ];
     for (input, refuses, fault, bytes) in cases {
-        let (result, rows) = read(rt.alloc(), input, 1, refuses)?;
-        assert_eq!(rt; result, Err(fault), "{input:?}");
-        assert_eq!(rt; rows.bytes.as_slice(), bytes, "{input:?}");
+        let outcome = read(rt.alloc(), input, 1, refuses)?;
+        assert_eq!(rt; outcome.result, Err(fault), "{input:?}");
+        assert_eq!(rt; outcome.rows.bytes.as_slice(), bytes, "{input:?}");
+    }
+    Ok(())
+}
+
+// `P4`, so many spaces, and then these bytes.
+fn spaced(alloc: Global, spaces: usize, rest: &[u8]) -> Result<Vec<u8>, Fail> {
+    let mut input = b"P4".to_vec(alloc)?;
+    for _ in 0..spaces {
+        input.push(b' ')?;
+    }
+    input.extend_from_slice(rest)?;
+    Ok(input)
+}
+
+#[test]
+fn headers_end_within_65536_bytes(rt: HostRuntime) -> Result<(), Fail> {
+    let cases: [(usize, &[u8], Result<Size, PageFault>); 6] = [
+        (65_530, b"8 1\n\0", size(8, 1)),
+        (65_531, b"8 1\n\0", Err(PageFault::HeaderTooLong)),
+        (65_534, b"8 1\n", Err(PageFault::HeaderTooLong)),
+        (65_534, b"", Err(PageFault::Truncated { at: 65_536 })),
+        (65_533, b"x", Err(PageFault::Header { at: 65_535 })),
+        (65_534, b"x", Err(PageFault::HeaderTooLong)),
+    ];
+    for (spaces, rest, result) in cases {
+        let outcome = read(
+            rt.alloc(),
+            &spaced(rt.alloc(), spaces, rest)?,
+            4096,
+            u16::MAX,
+        )?;
+        assert_eq!(rt; outcome.result, result, "{spaces} spaces, {rest:?}");
+    }
+    Ok(())
+}
+
+#[test]
+fn the_greatest_page_is_read(rt: HostRuntime) -> Result<(), Fail> {
+    let mut input = b"P4\n8192 4096\n".to_vec(rt.alloc())?;
+    input.resize(input.len() + 4_194_304, 0)?;
+    let outcome = read(rt.alloc(), &input, 65_536, u16::MAX)?;
+    assert_eq!(rt; outcome.result, size(8192, 4096));
+    assert_eq!(rt; outcome.rows.bytes.len(), 4_194_304);
+    Ok(())
+}
+
+#[test]
+fn inputs_end_within_268435456_bytes(rt: HostRuntime) -> Result<(), Fail> {
+    let cases: [(&[u8], u64, Result<Size, PageFault>); 3] = [
+        (b"P1\n1 1\n0", 268_435_456, size(1, 1)),
+        (b"P1\n1 1\n0", 268_435_457, Err(PageFault::InputTooLong)),
+        (
+            b"P1\n1 1\n",
+            268_435_456,
+            Err(PageFault::Truncated { at: 268_435_456 }),
+        ),
+    ];
+    for (front, len, result) in cases {
+        let mut src = Spaces::new(front.to_vec(rt.alloc())?, len);
+        let mut rows = Rows::new(rt.alloc(), u16::MAX);
+        assert_eq!(rt;
+            read_page(rt.alloc(), &mut src, &mut rows),
+            result,
+            "{front:?}, {len}"
+        );
+    }
+    Ok(())
+}
+
+// Reads the bytes, and compares the answer with that of the plain program.
+fn same_as_judged(alloc: Global, input: &[u8]) -> Result<bool, Fail> {
+    let outcome = read(alloc, input, 3, u16::MAX)?;
+    Ok(outcome.result == judged(input))
+}
+
+#[test]
+fn every_prefix_and_every_changed_byte_is_judged_as_the_plain_program_does(
+    rt: HostRuntime,
+) -> Result<(), Fail> {
+    let inputs: [&[u8]; 2] = [b"P1\r#c\n2 #\r1\n0#x\n1\rj", b"P4\n9 1\n\0\x7f"];
+    for input in inputs {
+        for len in 0..input.len() {
+            assert!(rt;
+                same_as_judged(rt.alloc(), &input[..len])?,
+                "{input:?}, {len} bytes"
+            );
+        }
+        for at in 0..input.len() {
+            for byte in 0..=u8::MAX {
+                let mut changed = input.to_vec(rt.alloc())?;
+                if at < changed.len() {
+                    changed[at] = byte;
+                }
+                assert!(rt;
+                    same_as_judged(rt.alloc(), &changed)?,
+                    "{input:?}, {byte} at {at}"
+                );
+            }
+        }
     }
     Ok(())
 }

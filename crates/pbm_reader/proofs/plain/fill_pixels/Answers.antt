@@ -9,7 +9,7 @@ loop-x-init g c =
     let f = c.fill.ensures in
     record {
       filling = filling_begins (left_of (g.S.Source.left c.args.src.now) c.args.feed.now) c.args.start c.fill.new.self c.requires.low
-        (row_white (length c.args.row.now) c.fill.new.self f.len (λ k d lt. f.clones k d lt refl));
+          (row_white (length c.args.row.now) c.fill.new.self f.len (λ k d lt. f.clones k d lt refl));
       buffer = f.len ∙ c.requires.len;
       low = c.requires.low;
       later = omega arith;
@@ -32,7 +32,7 @@ loop-x-preserved g c =
     let took = c.in_ok-pixel.ensures.pixel in
     record {
       filling = filling_on old middle new c.args.start c.loop-x.at c.in_ok-pixel.pixel.end c.loop-x.x c.in_ok-pixel.pixel.is_black c.loop-x.row c.put_pixel.new.row c.loop-x.invariant.filling
-        took c.put_pixel.ensures.pixels;
+          took c.put_pixel.ensures.pixels;
       buffer = c.put_pixel.ensures.len ∙ c.loop-x.invariant.buffer;
       low = took.low;
       later = omega arith;

@@ -25,7 +25,7 @@ returns-in_err-at-clause-fault g c =
     let middle = left_of (g.S.Source.left c.loop-y.src) c.loop-y.feed in
     let new = left_of (g.S.Source.left c.read_pixels.new.src) c.read_pixels.new.feed in
     rw (p.1, p.2) (row_fails g.R.RowSink.given old middle new c.args.header.len c.loop-y.at size.width size.height c.loop-y._y c.args.rows.now c.loop-y.rows c.in_err-at.field-0.0 c.loop-y.invariant.giving
-      (omega arith) c.in_err-at.ensures.fault)
+    (omega arith) c.in_err-at.ensures.fault)
 
 pub returns-in_err-row-clause-top : goal.returns-in_err-row-clause-top
 returns-in_err-row-clause-top g c =
@@ -53,7 +53,7 @@ loop-y-preserved g c =
     let took = c.in_ok-at.ensures.ok in
     record {
       giving = one_more_row g.R.RowSink.given old middle new c.args.header.len c.loop-y.at c.in_ok-at.at size.width size.height c.loop-y._y c.args.rows.now c.loop-y.rows c.read_pixels.new.rows
-        c.loop-y.invariant.giving took;
+          c.loop-y.invariant.giving took;
       buffer = c.loop-y.invariant.buffer;
       low = took.row.took.low;
       width = c.in_ok-at.ensures.width;

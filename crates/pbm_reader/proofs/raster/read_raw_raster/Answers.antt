@@ -16,7 +16,7 @@ returns-in_err-read_row-clause-fault g c =
     let P : ℕ → Type 0 = λ at. BytesFail middle new at (row_len size.width) c.in_err-read_row.field-0.0 in
     let fails : BytesFail middle new (c.args.header.len + c.loop-y._y * row_len size.width) (row_len size.width) c.in_err-read_row.field-0.0 = subst P c.loop-y.invariant.offset c.in_err-read_row.ensures.fault in
     rw (p.1, p.2) (row_fails g.R.RowSink.given old middle new size.width size.height c.loop-y._y c.args.header.len c.args.rows.now c.loop-y.rows c.in_err-read_row.field-0.0 c.loop-y.invariant.giving
-      (omega arith) c.requires.size c.requires.short fails)
+    (omega arith) c.requires.size c.requires.short fails)
 
 pub returns-in_err-row-clause-top : goal.returns-in_err-row-clause-top
 returns-in_err-row-clause-top g c =

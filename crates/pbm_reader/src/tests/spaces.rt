@@ -1,0 +1,37 @@
+//! A source of the tests that makes its bytes up, for inputs too long to be kept.
+ghost use Rattle.std.specs.Prelude.{◌≡◌, ℕ, List, Option, None};
+
+use layout_outside::{Failed, Source};
+
+// Hands out a front and then spaces, up to so many bytes.
+#[derive(Drop)]
+pub struct Spaces {
+    front: Vec<u8>,
+    at: u64,
+    len: u64,
+}
+
+impl Spaces {
+    pub fn new(front: Vec<u8>, len: u64) -> Spaces {
+        Spaces { front, at: 0, len }
+    }
+}
+
+impl Source for Spaces {
+    ghost use Rattle.std.specs.Prelude.{ℕ, List, Option, None};
+
+    ghost left = { λ _. None };
+
+    ghost faults = { λ _. 0 };
+
+    fn read(&mut self, buf: &mut [u8]) -> Result<usize, Failed> {
+        let count = (self.len.saturating_sub(self.at)).min(buf.len() as u64) as usize;
+        buf[..count].fill(b' ');
+        if self.at == 0 {
+            let first = self.front.len().min(count);
+            buf[..first].copy_from_slice(&self.front[..first]);
+        }
+        self.at = self.at.saturating_add(count as u64);
+        Ok(count)
+    }
+}
