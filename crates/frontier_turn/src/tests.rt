@@ -41,6 +41,24 @@ fn closed_at_once(rt: HostRuntime) -> Result<(), Fail> {
     Ok(())
 }
 
+// Where memory is refused, as in a run in which allocations fail, the lease goes back and its node is open again.
+#[test]
+fn lease_ends_or_goes_back(rt: HostRuntime) -> Result<(), Fail> {
+    let alloc = rt.alloc();
+    let keys = Keys::new(&[RIGHT, BELOW]);
+    let root = keys.root(alloc)?;
+    let (shared, pass) = Shared::start(alloc, &keys, root)?;
+    let (both, pass) = lease_at(&rt, &shared, pass, (0, 2));
+    let (ended, pass) = work_off(&rt, alloc, &keys, &shared, pass, both);
+    let waiting = if ended { 2 } else { 1 };
+    let closed = shared.close(pass);
+    assert_eq!(rt;
+        (closed.word, closed.waiting, closed.leased),
+        (0, waiting, 0)
+    );
+    Ok(())
+}
+
 /// Asks for the turn once, and gives it back. Says whether it came.
 fn try_turn<S: Space>(shared: &Shared<'_, S>, pass: Pass<S>) -> (bool, Pass<S>)
     requires own { IsOwn shared.now pass }
