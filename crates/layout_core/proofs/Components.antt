@@ -1,15 +1,12 @@
 -- A page has too many kept components exactly where it does not have few.
-use Rattle.std.proofs.Common.{◌≡◌, ℕ, ◌<◌, ◌≤◌, ◌⊎◌, List, ◌++◌, length, Option, Some, None, Result, Ok, Err, refl, sym, ap, subst, ◌∙◌, inl, inr, arith}
-use Rattle.std.specs.Prelude.{IfSome, IfOk, IfErr, IsErr}
-use Rattle.std.specs.Io.KnownBytes.{prepend_known, IsAtEnd}
+use Rattle.std.proofs.Common.{◌≡◌, ℕ, ◌⊎◌, List, ◌++◌, length, Option, Some, None, refl, sym, ap, subst, ◌∙◌, inl, inr, arith}
 use Rattle.std.proofs.lemmas.List.{append-nil}
 use Rattle.std.proofs.lemmas.List.Sorted.{length_permutation}
 use Rattle.pbm_reader.specs.Page.{Page}
 use Rattle.pbm_reader.specs.Spelling.{Spells}
-use Rattle.pbm_reader.specs.Left.{TookAll}
 use Rattle.layout_core.specs.declared.page_layout.CoreFault.{CoreFault}
 use Rattle.layout_core.specs.declared.page_layout.CoreFault.TheVariants as faults
-use Rattle.components.specs.Kept.{IsKeptList, IsKeptCount, IsKeptOf, KeptIsUnique}
+use Rattle.components.specs.Kept.{IsKeptCount, KeptIsUnique}
 use Rattle.layout_core.specs.declared.refusal.Refusal.TheVariants as refusals
 use Rattle.hocr_writer.specs.declared.layout.Layout.{Layout}
 use Rattle.command_words.specs.declared.plan.Plan.{Plan}

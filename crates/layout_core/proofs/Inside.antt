@@ -1,5 +1,5 @@
 -- What is found on a page lies on the page.
-use Rattle.std.proofs.Common.{◌≡◌, ℕ, ◌+◌, ◌*◌, ◌<◌, ◌≤◌, ℤ, Bool, List, [], ◌∷◌, length, map, get_or, Option, Some, None, slice_get, sym, subst, inl, inr, ⊎_elim, arith}
+use Rattle.std.proofs.Common.{ℕ, ◌≤◌, Bool, List, [], ◌∷◌, length, map, get_or, slice_get, subst, inl, inr, arith}
 use Rattle.std.specs.Prelude.{All, IfSome}
 use Rattle.std.specs.List.{AllZip, filter}
 use Rattle.std.proofs.lemmas.Int.{ints}
@@ -9,7 +9,7 @@ use Rattle.std.proofs.lemmas.List.Sums.{length-filter, count_by-le-length}
 use Rattle.std.proofs.lemmas.Option.{slice_get_cases}
 use Rattle.page_runs.specs.Page.{Page}
 use Rattle.layout_geom.specs.declared.rect.Rect.{Rect}
-use Rattle.layout_geom.specs.Rectangles.{HasSides, HasPixel, Encloses}
+use Rattle.layout_geom.specs.Rectangles.{HasSides, Encloses}
 use Rattle.components.specs.declared.place.Place.{Place}
 use Rattle.components.specs.Connected.{IsBlack, IsPath}
 use Rattle.components.specs.Boxes.{IsKept}

@@ -212,19 +212,73 @@ fn no_read_is_made_once_a_fault_is_decided(rt: HostRuntime) -> Result<(), Fail> 
     Ok(())
 }
 
+fn strings(alloc: Global, words: &[&str]) -> Result<Vec<String>, Fail> {
+    let mut strings = Vec::new(alloc);
+    for word in words {
+        strings.push(String::from_str(alloc, *word)?)?;
+    }
+    Ok(strings)
+}
+
+const ONE_WHITE_PIXEL: &[u8] = b"P1\n1 1\n0\n";
+
 #[test]
-fn any_word_is_refused_and_nothing_is_read(rt: HostRuntime) -> Result<(), Fail> {
-    for word in ["", "--help", "--", "page.pbm", "-"] {
-        let words = [String::from_str(rt.alloc(), word)?];
-        let outcome = run(rt.alloc(), &words, CORNER_BLOCK, 16, &[], &[])?;
-        assert_eq!(rt; outcome.status, 2, "{word}");
+fn words_without_a_plan_are_refused_and_nothing_is_read(rt: HostRuntime) -> Result<(), Fail> {
+    let cases: [&[&str]; 13] = [
+        &["--rects", "257"],
+        &["--rects", "1", "--rects=2"],
+        &["--rects", "+3"],
+        &["--image", "a\"b"],
+        &["--image", "-"],
+        &["--image="],
+        &["--"],
+        &["--help"],
+        &["page.pbm"],
+        &[""],
+        &["--workers", "2"],
+        &["--image", "a", "--make", "1"],
+        &["--make", "18446744073709551616"],
+    ];
+    for words in cases {
+        let strings = strings(rt.alloc(), words)?;
+        let outcome = run(rt.alloc(), &strings, ONE_WHITE_PIXEL, 16, &[], &[])?;
+        assert_eq!(rt; outcome.status, 2, "{words:?}");
         assert_eq!(rt;
             outcome.err.as_slice(),
-            b"usage: layout1\n".as_slice(),
-            "{word}"
+            b"usage: layout1 [--rects N] [--image NAME]\n".as_slice(),
+            "{words:?}"
         );
-        assert_eq!(rt; outcome.reads, 0, "{word}");
-        assert_eq!(rt; outcome.out.calls, 0, "{word}");
+        assert_eq!(rt; outcome.reads, 0, "{words:?}");
+        assert_eq!(rt; outcome.out.calls, 0, "{words:?}");
+    }
+    Ok(())
+}
+
+#[test]
+fn words_with_a_plan_are_followed(rt: HostRuntime) -> Result<(), Fail> {
+    let cases: [(&[&str], &[u8]); 3] = [
+        (
+            &["--image", "scan.pbm"],
+            b"title='image \"scan.pbm\"; bbox 0 0 1 1; ppageno 0; x_black 0'>\n",
+        ),
+        (
+            &["--image=-x", "--rects", "1"],
+            b"title='image \"-x\"; bbox 0 0 1 1; ppageno 0; x_black 0'>\n",
+        ),
+        (
+            &["--rects=0256"],
+            b"title='bbox 0 0 1 1; ppageno 0; x_black 0'>\n",
+        ),
+    ];
+    for (words, title) in cases {
+        let strings = strings(rt.alloc(), words)?;
+        let outcome = run(rt.alloc(), &strings, ONE_WHITE_PIXEL, 16, &[], &[])?;
+        assert_eq!(rt; outcome.status, 0, "{words:?}");
+        let text = outcome.out.as_slice();
+        assert!(rt;
+            text.windows(title.len()).any(|part| part == title),
+            "{words:?}"
+        );
     }
     Ok(())
 }

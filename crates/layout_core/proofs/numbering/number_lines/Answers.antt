@@ -1,4 +1,4 @@
-use Rattle.std.proofs.Common.{◌≡◌, ◌∙◌, ℕ, List, length, map, ap, arith, rules, ◌+◌}
+use Rattle.std.proofs.Common.{◌≡◌, ℕ, List, length, map, ap, arith, rules, ◌+◌}
 use Rattle.std.proofs.lemmas.List.{length-map}
 use Rattle.std.proofs.lemmas.List.Sorted.{answers_always, length_permutation}
 use Rattle.hocr_writer.specs.declared.layout.Mark.{Mark}

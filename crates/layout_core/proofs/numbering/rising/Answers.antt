@@ -1,4 +1,4 @@
-use Rattle.std.proofs.Common.{ap, sym, ◌∙◌, ◌∷◌, [], ◌++◌}
+use Rattle.std.proofs.Common.{ap, ◌∙◌, ◌∷◌, [], ◌++◌}
 use Rattle.layout_core.proofs.Rising.{rising_more}
 use Rattle.layout_core.proofs.numbering.rising.Goals as goal
 

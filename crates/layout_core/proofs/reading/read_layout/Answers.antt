@@ -1,6 +1,5 @@
-use Rattle.std.proofs.Common.{◌≡◌, refl}
+use Rattle.std.proofs.Common.{refl}
 use Rattle.std.proofs.lemmas.Result.{err_from_is_err_and}
-use Rattle.pbm_reader.specs.Page.{Page}
 use Rattle.layout_core.specs.Run.{ReadsWhole}
 use Rattle.layout_core.proofs.Components.{same_page, refused_components, few_components, many_components, few_of, not_many}
 use Rattle.layout_core.proofs.reading.read_layout.Goals as goal
