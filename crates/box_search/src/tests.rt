@@ -3,7 +3,7 @@ mod desk;
 mod refusing;
 mod table;
 
-use crate::{Alone, Frontier, Noted, OutOfMemory, Searcher, Space};
+use crate::{Alone, Frontier, FromFn, Noted, OutOfMemory, Searcher, Space};
 use desk::{Call, Gave, Plain, make_call, node_of};
 use refusing::Refusing;
 use std::alloc::Global;
@@ -126,13 +126,14 @@ fn heap_and_plain_program_agree(rt: HostRuntime) -> Result<(), Fail> {
 }
 
 /// Searches by any searcher.
-fn best_of<F: Searcher, S: Space>(
+fn best_of<S: Space, F: Searcher<S>>(
     alloc: Global,
     searcher: &mut F,
-    run: &F::Run,
     space: &S,
-) -> Result<u64, OutOfMemory> {
-    searcher.best(alloc, run, space)
+) -> Result<u64, OutOfMemory>
+    requires ready { F.ready searcher.old }
+{
+    searcher.best(alloc, space)
 }
 
 /// Searches a table in both ways, and compares the answers and the note with the greatest key.
@@ -142,7 +143,7 @@ fn compare(rt: &impl Abort, alloc: Global, table: &Table<'_>) -> Result<(), OutO
         .iter()
         .copied()
         .fold(0, |most, key| most.max(key));
-    assert_eq!(rt; best_of(alloc, &mut Alone, &(), table)?, greatest);
+    assert_eq!(rt; best_of(alloc, &mut Alone, table)?, greatest);
     for low in [0, 2, MOST] {
         let mut noted = Noted { space: table, low };
         assert_eq!(rt; Alone.best_on(alloc, &mut noted)?, greatest);
@@ -216,5 +217,19 @@ fn frontiers_and_leases_cross_threads(rt: HostRuntime) -> Result<(), Fail> {
     let mut frontier = Frontier::new(rt.alloc(), Some(node_of(1)))?;
     goes_across(frontier.lease());
     goes_across(frontier);
+    Ok(())
+}
+
+// A function that searches is asked as any searcher is.
+#[test]
+fn searcher_from_a_function(rt: HostRuntime) -> Result<(), Fail> {
+    let alloc = rt.alloc();
+    let mut searcher = FromFn {
+        search: |table: &Table<'_>| Alone.best(alloc, table),
+    };
+    let tables: [(&[u64], u64); 3] = [(&[3, 9, 4], 9), (&[0], 0), (&[], 0)];
+    for (keys, greatest) in tables {
+        assert_eq!(rt; best_of(alloc, &mut searcher, &Table::new(keys))?, greatest);
+    }
     Ok(())
 }

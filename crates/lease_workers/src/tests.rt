@@ -54,7 +54,7 @@ fn worker_counts(rt: HostRuntime) -> Result<(), Fail> {
         numbers[place] = number >> 32;
     }
     let keys = Keys::new(&numbers);
-    let greatest = Alone.best(alloc, &(), &keys)?;
+    let greatest = Alone.best(alloc, &keys)?;
     for _ in 0..20 {
         assert_eq!(rt; best_with(&rt, alloc, 1, &OpenGate, &keys)?, greatest);
         assert_eq!(rt; best_with(&rt, alloc, 2, &OpenGate, &keys)?, greatest);

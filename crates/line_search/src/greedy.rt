@@ -32,9 +32,8 @@ fn copy_of(alloc: Global, rects: &Rects) -> Result<Rects, OutOfMemory>
 ///
 /// There are at most 60,000 boxes and 256 gutters, the height is from 1 to 8192, and one rectangle has all
 /// boxes inside. The one refusal is want of memory, after which it may be called again.
-pub fn lines<F: Searcher>(
+pub fn lines<F: Searcher<Grid>>(
     alloc: Global,
-    run: &F::Run,
     kept: &Kept,
     gutters: &Rects,
     height: u16,
@@ -45,6 +44,8 @@ pub fn lines<F: Searcher>(
     requires low { 1 ≤ height }
     requires high { height ≤ 8192 }
     requires contained { (outer : Rect) × All (Encloses outer) kept.now.boxes }
+    requires ready { F.ready searcher.old }
+    ensures ready { F.ready searcher.new }
     ensures lines { IfOk result (AreLinesOf kept.now gutters.now height) }
     ensures rising { IfOk result (λ lines. All (λ line. IsStrictlyIncreasing line.members) lines) }
 {
@@ -53,7 +54,7 @@ pub fn lines<F: Searcher>(
     let mut grid = Grid::new(boxes, alive, copy_of(alloc, gutters)?, height);
     let mut lines = Lines::new(alloc);
     loop {
-        let key = searcher.best(alloc, run, &grid)?;
+        let key = searcher.best(alloc, &grid)?;
         if key == 0 {
             return Ok(lines);
         }

@@ -17,9 +17,8 @@ use std::alloc::Global;
 /// then the narrower is taken. `least` is at least 1, `count` at most 256, and there are at most 60,000
 /// boxes. Every search starts from the whole page, behind bars in place of the boxes. The one refusal is
 /// want of memory, after which it may be called again.
-pub fn cover<F: Searcher>(
+pub fn cover<F: Searcher<White>>(
     alloc: Global,
-    run: &F::Run,
     page: Rect,
     boxes: &Rects,
     least: u16,
@@ -29,13 +28,15 @@ pub fn cover<F: Searcher>(
     requires least { 1 ≤ least }
     requires count { count ≤ 256 }
     requires boxes { length boxes.now ≤ 60000 }
+    requires ready { F.ready searcher.old }
+    ensures ready { F.ready searcher.new }
     ensures cover { IfOk result (IsCover page boxes.now least count) }
 {
     let obstacles = bars(alloc, boxes, least)?;
     let mut white = White::indexed(alloc, page, obstacles, least)?;
     let mut rects = Rects::new(alloc);
     for _ in 0..count {
-        let key = searcher.best(alloc, run, &white)?;
+        let key = searcher.best(alloc, &white)?;
         let Some(rect) = Rect::of_key(key) else {
             return Ok(rects);
         };

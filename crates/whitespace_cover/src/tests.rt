@@ -45,7 +45,7 @@ pub(crate) fn white_of(
 #[test]
 fn corner_block(rt: HostRuntime) -> Result<(), Fail> {
     let white = white_of(&rt, rt.alloc(), (0, 0, 16, 16), &[(0, 0, 3, 3)], 8)?;
-    assert_eq!(rt; Alone.best(rt.alloc(), &(), &white)?, RIGHT);
+    assert_eq!(rt; Alone.best(rt.alloc(), &white)?, RIGHT);
     let mut noted = Noted {
         space: &white,
         low: u64::MAX,
@@ -58,7 +58,7 @@ fn corner_block(rt: HostRuntime) -> Result<(), Fail> {
 #[test]
 fn page_below_the_least_size(rt: HostRuntime) -> Result<(), Fail> {
     let white = white_of(&rt, rt.alloc(), (0, 0, 4, 4), &[], 8)?;
-    assert_eq!(rt; Alone.best(rt.alloc(), &(), &white)?, 0);
+    assert_eq!(rt; Alone.best(rt.alloc(), &white)?, 0);
     let mut noted = Noted {
         space: &white,
         low: u64::MAX,
@@ -95,7 +95,7 @@ fn compare(
     least: u16,
 ) -> Result<(), OutOfMemory> {
     let white = white_of(rt, alloc, page, obstacles, least)?;
-    let key = Alone.best(alloc, &(), &white)?;
+    let key = Alone.best(alloc, &white)?;
     let found = Rect::of_key(key).map(|r| (r.x0(), r.y0(), r.x1(), r.y1()));
     let best = best_of_all(page, obstacles, least);
     assert_eq!(rt; found.map(rank_of), best.map(rank_of), "{page:?} {least}");
@@ -106,7 +106,7 @@ fn compare(
         rects_of(rt, alloc, obstacles)?,
         least,
     )?;
-    assert_eq!(rt; Alone.best(alloc, &(), &indexed)?, key, "{page:?} {least}");
+    assert_eq!(rt; Alone.best(alloc, &indexed)?, key, "{page:?} {least}");
     Ok(())
 }
 

@@ -78,7 +78,7 @@ fn compare_page(
     };
     let gutters = rects_of(alloc, gutter_sides)?;
     assert!(rt; kept.boxes.len() <= 60_000 && gutters.len() <= 256);
-    let found = lines(alloc, &(), &kept, &gutters, HEIGHT, &mut Alone)?;
+    let found = lines(alloc, &kept, &gutters, HEIGHT, &mut Alone)?;
     let mut boxes: Vec<(Sides, bool)> = Vec::new(alloc);
     for box_sides in sides {
         boxes.push((*box_sides, true))?;

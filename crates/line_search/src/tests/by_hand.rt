@@ -206,7 +206,7 @@ fn compare_page(rt: &impl Abort, alloc: Global, case: &Case) -> Result<(), Fail>
     let gutters = rects_of(alloc, case.gutters)?;
     assert!(rt; kept.boxes.len() <= 60_000 && gutters.len() <= 256);
     assert!(rt; 1 <= case.height && case.height <= 8192);
-    let found = lines(alloc, &(), &kept, &gutters, case.height, &mut Alone)?;
+    let found = lines(alloc, &kept, &gutters, case.height, &mut Alone)?;
     assert_eq!(rt; found.len(), case.lines.len(), "{}", case.name);
     for (line, wanted) in found.as_slice().iter().zip(case.lines) {
         compare(rt, case.name, line, *wanted);
@@ -232,7 +232,7 @@ fn best_line_of_a_grid(rt: HostRuntime) -> Result<(), Fail> {
         let alive = positions(rt.alloc(), count)?;
         assert!(rt; boxes.len() == 3 && count <= 3 && gutters.len() == 0);
         let grid = Grid::new(boxes, alive, gutters, 40);
-        assert_eq!(rt; Alone.best(rt.alloc(), &(), &grid)?, key);
+        assert_eq!(rt; Alone.best(rt.alloc(), &grid)?, key);
         let mut noted = Noted {
             space: &grid,
             low: u64::MAX,

@@ -88,7 +88,6 @@ fn covers_by_hand(rt: HostRuntime) -> Result<(), Fail> {
         assert!(rt; 1 <= case.least && case.count <= 256 && boxes.len() <= 60_000);
         let found = cover(
             rt.alloc(),
-            &(),
             page,
             &boxes,
             case.least,
@@ -118,7 +117,7 @@ fn plain_cover(
         for rect in found.as_slice() {
             obstacles.push(*rect)?;
         }
-        let key = Alone.best(alloc, &(), &White::new(page, obstacles, least))?;
+        let key = Alone.best(alloc, &White::new(page, obstacles, least))?;
         let Some(rect) = Rect::of_key(key) else {
             return Ok(found);
         };
@@ -140,7 +139,7 @@ fn bars_and_cells_change_no_cover(rt: HostRuntime) -> Result<(), Fail> {
         }
         let boxes = rects_of(&rt, rt.alloc(), &sides)?;
         assert!(rt; boxes.len() <= 60_000);
-        let found = cover(rt.alloc(), &(), page, &boxes, 4 + turn, 20, &mut Alone)?;
+        let found = cover(rt.alloc(), page, &boxes, 4 + turn, 20, &mut Alone)?;
         let expected = plain_cover(rt.alloc(), page, &boxes, 4 + turn, 20)?;
         assert_eq!(rt; found.as_slice(), expected.as_slice(), "{turn}");
     }

@@ -15,7 +15,7 @@ returns-then-key-eq0 g c =
     let start : List ℕ = characters_of c.args.kept.now in
     let are : IsLineList boxes gutters c.args.height start c.loop-lines.lines = ended boxes gutters c.args.height start c.loop-lines.grid.alive c.loop-lines.lines so_far.ending
     (rw (so_far.boxes, so_far.gutters, so_far.height) at (no_line c.loop-lines.grid c.in_ok-key.key c.in_ok-key.ensures.greatest c.if-key-eq0.true)) in
-    record { lines = are; rising = members_rise boxes gutters c.args.height start c.loop-lines.lines (characters_rise c.args.kept.now) are }
+    record { ready = c.in_ok-key.ensures.ready; lines = are; rising = members_rise boxes gutters c.args.height start c.loop-lines.lines (characters_rise c.args.kept.now) are }
 
 pub take_line-requires-clause-contained : goal.take_line-requires-clause-contained
 take_line-requires-clause-contained g c =
@@ -33,4 +33,5 @@ loop-lines-preserved g c =
           (rw (so_far.boxes, so_far.gutters, so_far.height) at c.in_ok-line.ensures.best)
           (ap (λ (p : Problem). p.alive) rest)
           c.in_ok-push.ensures.grown;
+      ready = c.in_ok-key.ensures.ready;
     }

@@ -9,6 +9,7 @@ invariant-loop-lines g l = record {
   gutters : l.grid.gutters ≡ l.gutters;
   height : l.grid.height ≡ l.height;
   ending : EndsWell l.kept.boxes l.gutters l.height (characters_of l.kept) l.grid.alive l.lines;
+  ready : g.F.Searcher.ready l.searcher;
 }
 
 abbrev pub decreases-loop-lines : goal.decreases-loop-lines

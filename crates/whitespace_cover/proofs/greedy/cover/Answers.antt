@@ -14,6 +14,7 @@ returns-in_default g c =
     let problem : Problem = record { page = c.args.page; obstacles = bars ++ c.loop.rects; least = c.args.least } in
     let answer : IsAnswer problem c.in_ok-key.key = asked c.loop.white c.args.page (bars ++ c.loop.rects) c.args.least c.in_ok-key.key c.loop.invariant.page c.loop.invariant.obstacles c.loop.invariant.least c.in_ok-key.ensures.greatest in
     record {
+      ready = c.in_ok-key.ensures.ready;
       cover = record {
         each = c.loop.invariant.each;
         few = omega (arith, c.loop.invariant.many, c.loop-test.true);
@@ -39,4 +40,5 @@ loop-preserved g c =
       least = c.in_ok-push.ensures.least ∙ c.loop.invariant.least;
       each = subst (λ (xs : List Rect). EachIsBest c.args.page boxes c.args.least xs) (sym pushed) more;
       many = omega (arith, ap length pushed, c.loop.invariant.many, length-append c.loop.rects (rect ∷ []));
+      ready = c.in_ok-key.ensures.ready;
     }

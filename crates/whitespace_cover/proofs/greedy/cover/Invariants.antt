@@ -9,4 +9,5 @@ invariant-loop g l = record {
   least : l.white.least ≡ l.fn.least;
   each : EachIsBest l.fn.page l.boxes l.fn.least l.rects;
   many : length l.rects ≡ l.counter;
+  ready : g.F.Searcher.ready l.searcher;
 }
