@@ -1,4 +1,4 @@
-//! A run whose words have a plan, by any searcher.
+//! A run whose words have a plan, by any searchers.
 ghost use Rattle.std.specs.Prelude.{◌≡◌, ◌≢◌, ◌⊎◌, ◌≤◌, ℕ, List, Some, map, string_bytes};
 ghost use Rattle.layout_outside.specs.Causes.{Rose};
 ghost use Rattle.pbm_reader.specs.declared.fault.PageFault.{PageFault};
@@ -18,22 +18,26 @@ use box_search::Searcher;
 use command_words::{Plan, Program};
 use hocr_writer::hocr_text;
 use layout_outside::{Sink, Source, put_all};
+use line_search::Grid;
 use std::alloc::Global;
+use whitespace_cover::White;
 
 /// Reads a page from the source, writes the document of its layout by the plan to `out`, and answers the status of the
 /// run, which is not 2. The words are those of the program, and this is their plan.
-pub(crate) fn lay_out<F: Searcher, S: Source, K: Sink, E: Sink>(
+pub(crate) fn lay_out<F: Searcher<White>, G: Searcher<Grid>, S: Source, K: Sink, E: Sink>(
     alloc: Global,
     program: Program,
     words: &[String],
     plan: &Plan,
-    run: &F::Run,
-    searcher: &mut F,
+    for_whites: &mut F,
+    for_lines: &mut G,
     src: &mut S,
     out: &mut K,
     err: &mut E,
 ) -> u8
     requires planned { HasPlan program (map string_bytes words.now) plan.now }
+    requires whites_ready { F.ready for_whites.old }
+    requires lines_ready { G.ready for_lines.old }
     requires some { 1 ≤ plan.now.rects }
     requires few { plan.now.rects ≤ 256 }
     ensures statuses { IsStatus result × (result ≢ 2) }
@@ -63,7 +67,7 @@ pub(crate) fn lay_out<F: Searcher, S: Source, K: Sink, E: Sink>(
         → HasFewComponents page → ¬ Rose (S.faults src.old) (S.faults src.new)
         → (result ≡ 0) ⊎ ((result ≡ 6) × Rose (K.faults out.old) (K.faults out.new)) ⊎ (result ≡ 7) }
 {
-    let layout = match read_layout(alloc, plan, run, searcher, src) {
+    let layout = match read_layout(alloc, plan, for_whites, for_lines, src) {
         Ok(layout) => layout,
         Err(refusal) => return refuse(err, refusal),
     };

@@ -12,11 +12,11 @@ use components::{CompFault, components};
 use gutters::gutters;
 use hocr_writer::Layout;
 use layout_geom::{Name, Rect};
-use line_search::lines;
+use line_search::{Grid, lines};
 use page_runs::RunPage;
 use reading_order::order_of;
 use std::alloc::{AllocError, Global};
-use whitespace_cover::cover;
+use whitespace_cover::{White, cover};
 
 /// The least width and height of a white rectangle in pixels, where the median height is less.
 const LEAST_SIZE: u16 = 8;
@@ -72,19 +72,21 @@ fn copy_of(alloc: Global, name: &Name) -> Result<Name, AllocError>
     Ok(Name::from_vec(copy))
 }
 
-/// The layout of a page by a plan, by any searcher: its black pixels, its kept components and their median height, the
+/// The layout of a page by a plan, by any searcher of white rectangles and any of lines: its black pixels, its kept components and their median height, the
 /// greedy cover of its white space (Breuel 2002) by at most as many rectangles as planned, each at least as wide and as
 /// high as the median height and as 8 pixels, the gutters among them, the greedy lines of its text, the order in which they are read
 /// (Breuel 2003), and the areas that they form.
 ///
 /// It refuses a page of which more than 60,000 components are kept, and for want of memory.
-pub fn layout_of<F: Searcher>(
+pub fn layout_of<F: Searcher<White>, G: Searcher<Grid>>(
     alloc: Global,
-    run: &F::Run,
     page: &RunPage,
     plan: &Plan,
-    searcher: &mut F,
+    for_whites: &mut F,
+    for_lines: &mut G,
 ) -> Result<Layout, CoreFault>
+    requires whites_ready { F.ready for_whites.old }
+    requires lines_ready { G.ready for_lines.old }
     requires whole { IsWhole page.now }
     requires some { 1 ≤ plan.now.rects }
     requires few { plan.now.rects ≤ 256 }
@@ -97,15 +99,14 @@ pub fn layout_of<F: Searcher>(
     let whole = page_rect(page);
     let whites = cover(
         alloc,
-        run,
         whole,
         &kept.boxes,
         least,
         plan.rects as u32,
-        searcher,
+        for_whites,
     )?;
     let gutters = gutters(alloc, &whites, &kept)?;
-    let found = lines(alloc, run, &kept, &gutters, page.height(), searcher)?;
+    let found = lines(alloc, &kept, &gutters, page.height(), for_lines)?;
     let lines = number_lines(alloc, &found)?;
     let boxes = boxes_of(alloc, &lines)?;
     let order = order_of(alloc, &boxes)?;

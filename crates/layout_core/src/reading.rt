@@ -17,18 +17,22 @@ use command_words::Plan;
 use components::kept_is_unique;
 use hocr_writer::Layout;
 use layout_outside::Source;
+use line_search::Grid;
 use page_runs::{RunPage, given_page_is_held};
 use pbm_reader::{each_input_is_judged, read_page};
 use std::alloc::Global;
+use whitespace_cover::White;
 
-/// Reads a page to the end of the input, and finds its layout by the plan, with any searcher.
-pub(crate) fn read_layout<F: Searcher, S: Source>(
+/// Reads a page to the end of the input, and finds its layout by the plan, with any searchers.
+pub(crate) fn read_layout<F: Searcher<White>, G: Searcher<Grid>, S: Source>(
     alloc: Global,
     plan: &Plan,
-    run: &F::Run,
-    searcher: &mut F,
+    for_whites: &mut F,
+    for_lines: &mut G,
     src: &mut S,
 ) -> Result<Layout, Refusal>
+    requires whites_ready { F.ready for_whites.old }
+    requires lines_ready { G.ready for_lines.old }
     requires some { 1 ≤ plan.now.rects }
     requires few { plan.now.rects ≤ 256 }
     ensures layout { IfOk result (ReadsLayout plan.now (S.left src.old) (S.left src.new)) }
@@ -47,6 +51,6 @@ pub(crate) fn read_layout<F: Searcher, S: Source>(
     kept_is_unique();
     let mut page = RunPage::empty(alloc);
     let _size = read_page(alloc, src, &mut page)?;
-    let layout = layout_of(alloc, run, &page, plan, searcher)?;
+    let layout = layout_of(alloc, &page, plan, for_whites, for_lines)?;
     Ok(layout)
 }

@@ -92,7 +92,7 @@ pub fn layout_alone<S: Source, K: Sink, E: Sink>(
             Program::Alone,
             words,
             &plan,
-            &(),
+            &mut Alone,
             &mut Alone,
             src,
             out,
