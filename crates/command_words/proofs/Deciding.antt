@@ -1,8 +1,8 @@
 -- Why words have no plan: values that tell none.
-use Rattle.std.proofs.Common.{◌≡◌, ◌∙◌, ℕ, sym, subst, codes, List, Option, Some, None}
+use Rattle.std.proofs.Common.{◌≡◌, ◌∙◌, ℕ, ap, sym, subst, codes, List, Option, Some, None}
 use Rattle.command_words.specs.Items.{Text}
-use Rattle.command_words.specs.Values.{IsImageOf, IsNumberOf}
-use Rattle.command_words.specs.Plans.{HasNoPlan, HasPlan, usual_workers, value_in}
+use Rattle.command_words.specs.Values.{IsImageOf, IsNumberOf, IsSeedOf}
+use Rattle.command_words.specs.Plans.{AreApart, HasNoPlan, HasPlan, usual_workers, value_in}
 use Rattle.command_words.specs.Givens.{HasValues, text_of}
 use Rattle.command_words.specs.declared.options.Given.{Given}
 use Rattle.command_words.specs.declared.plan.Plan.{Plan}
@@ -35,7 +35,22 @@ no_image program words given values none plan has =
     (subst (λ v. IsImageOf v plan.image) (sym values.image)
     (subst (λ is. IsImageOf (value_in is (codes "image")) plan.image) (same_values program words given plan values has) has.image))
 
--- a value tells one number at most, and one name
+pub no_seed : (program : Program) (words : List Text) (given : Given) → HasValues program words given
+    → ((seed : Option ℕ) → IsSeedOf (text_of given.make) seed → ⊥) → HasNoPlan program words
+no_seed program words given values none plan has =
+    none plan.make
+    (subst (λ v. IsSeedOf v plan.make) (sym values.make)
+    (subst (λ is. IsSeedOf (value_in is (codes "make")) plan.make) (same_values program words given plan values has) has.make))
+
+pub not_apart : (program : Program) (words : List Text) (given : Given) → HasValues program words given
+    → (AreApart (text_of given.image) (text_of given.make) → ⊥) → HasNoPlan program words
+not_apart program words given values both plan has =
+    both
+    (subst (λ v. AreApart v (text_of given.make)) (sym values.image)
+    (subst (λ v. AreApart (value_in values.items (codes "image")) v) (sym values.make)
+    (subst (λ is. AreApart (value_in is (codes "image")) (value_in is (codes "make"))) (same_values program words given plan values has) has.apart)))
+
+-- a value tells one number at most, one name, and one seed
 one_number : (value : Option Text) (usual least most n m : ℕ) → IsNumberOf value usual least most n → IsNumberOf value usual least most m → n ≡ m
 one_number None usual least most n m is_n is_m = is_n ∙ sym is_m
 one_number (Some text) usual least most n m is_n is_m = sym is_n.spelled.value ∙ is_m.spelled.value
@@ -43,6 +58,10 @@ one_number (Some text) usual least most n m is_n is_m = sym is_n.spelled.value �
 one_name : (value : Option Text) (x y : Text) → IsImageOf value x → IsImageOf value y → x ≡ y
 one_name None x y is_x is_y = is_x ∙ sym is_y
 one_name (Some text) x y is_x is_y = is_x.1 ∙ sym is_y.1
+
+one_seed : (value : Option Text) (x y : Option ℕ) → IsSeedOf value x → IsSeedOf value y → x ≡ y
+one_seed None x y is_x is_y = is_x ∙ sym is_y
+one_seed (Some text) x y is_x is_y = is_x.is ∙ ap Some (sym is_x.spelled.value ∙ is_y.spelled.value) ∙ sym is_y.is
 
 pub one_plan : (program : Program) (words : List Text) (p q : Plan) → HasPlan program words p → HasPlan program words q → p ≡ q
 one_plan program words p q has_p has_q =
@@ -53,5 +72,6 @@ one_plan program words p q has_p has_q =
     (subst (λ is. IsNumberOf (value_in is (codes "workers")) (usual_workers program) 1 64 p.workers) same has_p.workers) has_q.workers in
     let image = one_name (value_in has_q.items (codes "image")) p.image q.image
     (subst (λ is. IsImageOf (value_in is (codes "image")) p.image) same has_p.image) has_q.image in
-    let make = has_p.make ∙ sym has_q.make in
+    let make = one_seed (value_in has_q.items (codes "make")) p.make q.make
+    (subst (λ is. IsSeedOf (value_in is (codes "make")) p.make) same has_p.make) has_q.make in
     λ i. record { rects = rects i; workers = workers i; image = image i; make = make i }

@@ -17,3 +17,4 @@ pub record HasValues (program : Program) (words : List Text) (given : Given) : T
   pub workers : text_of given.workers ≡ value_in items (codes "workers")
   pub rects : text_of given.rects ≡ value_in items (codes "rects")
   pub image : text_of given.image ≡ value_in items (codes "image")
+  pub make : text_of given.make ≡ value_in items (codes "make")

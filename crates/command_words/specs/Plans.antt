@@ -1,17 +1,17 @@
 -- The plan of a list of words.
-use Rattle.std.specs.Prelude.{◌≡◌, ◌≢◌, ℕ, List, [], ◌∷◌, codes, Option, None, find, option_map, AllPairs}
+use Rattle.std.specs.Prelude.{◌≡◌, ◌≢◌, ◌⊎◌, ℕ, List, [], ◌∷◌, codes, Option, None, find, option_map, AllPairs}
 use Rattle.std.specs.List.{All, Contains}
 use Rattle.std.specs.Str.{bytes_eq}
 use Rattle.command_words.specs.Items.{Text, Item, SpellsItems}
-use Rattle.command_words.specs.Values.{IsNumberOf, IsImageOf}
+use Rattle.command_words.specs.Values.{IsNumberOf, IsImageOf, IsSeedOf}
 use Rattle.command_words.specs.declared.plan.Program.{Program}
 use Rattle.command_words.specs.declared.plan.Program.TheVariants.{Alone, Shared}
 use Rattle.command_words.specs.declared.plan.Plan.{Plan}
 
 -- The options that a program has.
 abbrev pub options_of : Program → List Text
-options_of Alone = codes "rects" ∷ codes "image" ∷ []
-options_of Shared = codes "workers" ∷ codes "rects" ∷ codes "image" ∷ []
+options_of Alone = codes "rects" ∷ codes "image" ∷ codes "make" ∷ []
+options_of Shared = codes "workers" ∷ codes "rects" ∷ codes "image" ∷ codes "make" ∷ []
 
 -- The words are these items, of options that the program has, each at most once.
 pub record HasItems (program : Program) (words : List Text) (items : List Item) : Type 0 where
@@ -28,6 +28,10 @@ abbrev pub usual_workers : Program → ℕ
 usual_workers Alone = 1
 usual_workers Shared = 4
 
+-- At most one of the two options is given.
+abbrev pub AreApart : Option Text → Option Text → Type 0
+AreApart first second = (first ≡ None) ⊎ (second ≡ None)
+
 -- The words are items whose values tell the plan.
 pub record HasPlan (program : Program) (words : List Text) (plan : Plan) : Type 0 where
   pub items : List Item
@@ -35,7 +39,8 @@ pub record HasPlan (program : Program) (words : List Text) (plan : Plan) : Type 
   pub workers : IsNumberOf (value_in items (codes "workers")) (usual_workers program) 1 64 plan.workers
   pub rects : IsNumberOf (value_in items (codes "rects")) 32 1 256 plan.rects
   pub image : IsImageOf (value_in items (codes "image")) plan.image
-  pub make : plan.make ≡ None
+  pub make : IsSeedOf (value_in items (codes "make")) plan.make
+  pub apart : AreApart (value_in items (codes "image")) (value_in items (codes "make"))
 
 -- The words have no plan.
 abbrev pub HasNoPlan : Program → List Text → Type 0

@@ -1,5 +1,5 @@
 -- What the values of options mean.
-use Rattle.std.specs.Prelude.{◌≡◌, ◌≢◌, ◌≤◌, ℕ, [], Option, MatchOption, length}
+use Rattle.std.specs.Prelude.{◌≡◌, ◌≢◌, ◌<◌, ◌≤◌, ◌^◌, ℕ, [], Option, Some, None, MatchOption, length}
 use Rattle.std.specs.List.{All}
 use Rattle.std.specs.Str.Parse.{digits_value}
 use Rattle.command_words.specs.Items.{Text}
@@ -24,6 +24,17 @@ pub record SpellsNumberIn (least most : ℕ) (text : Text) (n : ℕ) : Type 0 wh
 -- n is what the value of an option spells, and what is usual where the option is not given
 abbrev pub IsNumberOf : Option Text → ℕ → ℕ → ℕ → ℕ → Type 0
 IsNumberOf value usual least most n = MatchOption value (n ≡ usual) (λ text. SpellsNumberIn least most text n)
+
+-- The seed is the number that the text spells, and lies below 2 ^ 64.
+pub record IsSeed (text : Text) (seed : Option ℕ) : Type 0 where
+  pub number : ℕ
+  pub is : seed ≡ Some number
+  pub spelled : SpellsNumber text number
+  pub below : number < 2 ^ 64
+
+-- The seed is what the value of an option spells, and there is none where the option is not given.
+abbrev pub IsSeedOf : Option Text → Option ℕ → Type 0
+IsSeedOf value seed = MatchOption value (seed ≡ None) (λ text. IsSeed text seed)
 
 -- Printable ASCII (space to `~`), but none of `"`, `&`, `'`, `;`, `<`, `>` and the backslash.
 pub record IsNameByte (byte : ℕ) : Type 0 where

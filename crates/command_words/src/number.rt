@@ -1,8 +1,8 @@
 //! Numbers of the command line: digits and nothing else.
-ghost use Rattle.std.specs.Prelude.{◌≡◌, ◌<◌, ◌≤◌, ◌^◌, ◌↔◌, ℕ, IfOk, IfErr, IfSome, IfNone, IsTrue, length};
+ghost use Rattle.std.specs.Prelude.{◌≡◌, ◌<◌, ◌≤◌, ◌^◌, ◌↔◌, ℕ, Option, IfOk, IfErr, IfSome, IfNone, IsTrue, length};
 ghost use Rattle.std.specs.List.{All};
 ghost use Rattle.command_words.specs.Givens.{text_of};
-ghost use Rattle.command_words.specs.Values.{IsDigit, IsNumberOf, SpellsNumber};
+ghost use Rattle.command_words.specs.Values.{IsDigit, IsNumberOf, IsSeedOf, SpellsNumber};
 
 use crate::plan::WordFault;
 
@@ -40,5 +40,20 @@ pub fn number_or(text: Option<&str>, usual: u16, most: u16) -> Result<u16, WordF
     match number_of(text) {
         Some(number) if 1 <= number && number <= u64::from(most) => Ok(number as u16),
         _ => Err(WordFault::Usage),
+    }
+}
+
+/// The seed of a made page: the number that the value of its option spells, and none where that is
+/// not given.
+pub fn seed_or_none(text: Option<&str>) -> Result<Option<u64>, WordFault>
+    ensures seed { IfOk result (IsSeedOf (text_of text.entry)) }
+    ensures usage { IfErr result (λ fault. (fault ≡ WordFault.Usage) × ((seed : Option ℕ) → ¬ IsSeedOf (text_of text.entry) seed)) }
+{
+    let Some(text) = text else {
+        return Ok(None);
+    };
+    match number_of(text) {
+        Some(number) => Ok(Some(number)),
+        None => Err(WordFault::Usage),
     }
 }

@@ -19,6 +19,7 @@ pub struct Given<'a> {
     pub workers: Option<&'a str>,
     pub rects: Option<&'a str>,
     pub image: Option<&'a str>,
+    pub make: Option<&'a str>,
 }
 
 /// Whether a word begins with one hyphen and no second, or is two hyphens and no more. `clap` gives
@@ -63,7 +64,8 @@ fn command<'a>(alloc: Global, program: Program) -> Result<Command<'a>, AllocErro
         Program::Shared => with_option(alloc, bare, "workers")?,
     };
     let second = with_option(alloc, first, "rects")?;
-    with_option(alloc, second, "image")
+    let third = with_option(alloc, second, "image")?;
+    with_option(alloc, third, "make")
 }
 
 /// The fault of the words, by the kind of `clap`'s error.
@@ -124,5 +126,6 @@ pub fn read_options<'a>(
         workers: matches.get_str("workers"),
         rects: matches.get_str("rects"),
         image: matches.get_str("image"),
+        make: matches.get_str("make"),
     })
 }

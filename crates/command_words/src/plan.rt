@@ -22,7 +22,8 @@ pub struct Plan {
     /// The bytes of the image's name, as hOCR's property `image` has it: at most 255 printable ASCII
     /// bytes. It is empty where no word tells.
     pub image: Name,
-    /// The number from which a page is made, where it is not read. No word tells it yet.
+    /// The seed from which a page is made, where it is not read: none where no word tells. A plan
+    /// with a seed has no name of an image.
     pub make: Option<u64>,
 }
 

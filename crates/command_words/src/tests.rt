@@ -27,7 +27,7 @@ fn plan(alloc: Global, words: &[&str], program: Program) -> Result<Plan, Fail> {
 
 #[test]
 fn words_refused(rt: HostRuntime) -> Result<(), Fail> {
-    let lines: [&[&str]; 38] = [
+    let lines: [&[&str]; 35] = [
         &["--rects", "257"],
         &["--rects", "1", "--rects=2"],
         &["--image", "a\"b"],
@@ -48,9 +48,6 @@ fn words_refused(rt: HostRuntime) -> Result<(), Fail> {
         &["--image", "a", "b"],
         &["--workers", "2"],
         &["--workers=1"],
-        &["--make", "1"],
-        &["--image", "a", "--make", "1"],
-        &["--make", "18446744073709551616"],
         &["--rects", "+3"],
         &["--rects", "-1"],
         &["--rects=-1"],
@@ -201,18 +198,77 @@ fn workers_of_the_shared_program(rt: HostRuntime) -> Result<(), Fail> {
         let plan = plan(rt.alloc(), words, Program::Shared)?;
         assert_eq!(rt; plan.workers, workers, "{words:?}");
     }
-    let refused: [&[&str]; 5] = [
+    let refused: [&[&str]; 4] = [
         &["--workers", "0"],
         &["--workers", "65"],
         &["--workers"],
         &["--workers", "2", "--workers=2"],
-        &["--make", "1"],
     ];
     for words in refused {
         assert!(rt;
             is_refused(rt.alloc(), words, Program::Shared)?,
             "{words:?}"
         );
+    }
+    Ok(())
+}
+
+#[test]
+fn words_with_a_seed(rt: HostRuntime) -> Result<(), Fail> {
+    let lines: [(&[&str], u64, u16); 6] = [
+        (&["--make", "7"], 7, 32),
+        (&["--make=0"], 0, 32),
+        (&["--make", "18446744073709551615"], u64::MAX, 32),
+        (&["--make=00000000000000000007"], 7, 32),
+        (&["--make", "7", "--rects", "2"], 7, 2),
+        (&["--rects=2", "--make=7"], 7, 2),
+    ];
+    for (words, seed, rects) in lines {
+        for (program, workers) in [(Program::Alone, 1), (Program::Shared, 4)] {
+            let plan = plan(rt.alloc(), words, program)?;
+            assert_eq!(rt;
+                (plan.make, plan.rects, plan.workers),
+                (Some(seed), rects, workers),
+                "{words:?}"
+            );
+            assert!(rt; plan.image.as_slice().is_empty(), "{words:?}");
+        }
+    }
+    let words: [&[&str]; 2] = [
+        &["--make", "7", "--workers", "8"],
+        &["--workers=8", "--make=7"],
+    ];
+    for words in words {
+        let plan = plan(rt.alloc(), words, Program::Shared)?;
+        assert_eq!(rt; (plan.make, plan.workers), (Some(7), 8), "{words:?}");
+    }
+    Ok(())
+}
+
+#[test]
+fn words_with_a_seed_refused(rt: HostRuntime) -> Result<(), Fail> {
+    let lines: [&[&str]; 16] = [
+        &["--image", "a", "--make", "1"],
+        &["--make", "1", "--image", "a"],
+        &["--image=a", "--make=1"],
+        &["--make=1", "--image=a"],
+        &["--make=0", "--rects", "3", "--image", "a"],
+        &["--make", "18446744073709551616"],
+        &["--make=99999999999999999999"],
+        &["--make", "000000000000000000007"],
+        &["--make"],
+        &["--make="],
+        &["--make", ""],
+        &["--make", "-1"],
+        &["--make=-1"],
+        &["--make", "+1"],
+        &["--make", "1", "--make", "1"],
+        &["--make=1", "--rects=3", "--make=1"],
+    ];
+    for words in lines {
+        for program in [Program::Alone, Program::Shared] {
+            assert!(rt; is_refused(rt.alloc(), words, program)?, "{words:?}");
+        }
     }
     Ok(())
 }

@@ -1,10 +1,11 @@
 //! The plan of the words.
-ghost use Rattle.std.specs.Prelude.{◌≡◌, ◌≤◌, IfOk, IfErr, All, length, map, string_bytes};
-ghost use Rattle.command_words.specs.Plans.{HasPlan, HasNoPlan, usual_workers};
+ghost use Rattle.std.specs.Prelude.{◌≡◌, ◌≤◌, ◌↔◌, IfOk, IfErr, IsTrue, All, length, map, string_bytes};
+ghost use Rattle.command_words.specs.Plans.{AreApart, HasPlan, HasNoPlan, usual_workers};
+ghost use Rattle.command_words.specs.Givens.{text_of};
 ghost use Rattle.command_words.specs.Values.{IsNameByte};
 
 use crate::image::image_or_none;
-use crate::number::number_or;
+use crate::number::{number_or, seed_or_none};
 use crate::options::read_options;
 use crate::plan::{Plan, Program, WordFault};
 use std::alloc::Global;
@@ -30,6 +31,13 @@ fn workers_of(program: Program) -> u16
     }
 }
 
+/// Whether at most one of two options is given.
+fn are_apart(first: Option<&str>, second: Option<&str>) -> bool
+    ensures apart { IsTrue result ↔ AreApart (text_of first.entry) (text_of second.entry) }
+{
+    first.is_none() || second.is_none()
+}
+
 /// The plan of the words behind the program's name, or `Usage` exactly where they have none.
 pub fn words_of(alloc: Global, words: &[String], program: Program) -> Result<Plan, WordFault>
     ensures plan { IfOk result (HasPlan program (map string_bytes words.now)) }
@@ -40,13 +48,17 @@ pub fn words_of(alloc: Global, words: &[String], program: Program) -> Result<Pla
         → HasNoPlan program (map string_bytes words.now)) }
 {
     let given = read_options(alloc, words, program)?;
+    if !are_apart(given.image, given.make) {
+        return Err(WordFault::Usage);
+    }
     let workers = number_or(given.workers, workers_of(program), MOST_WORKERS)?;
     let rects = number_or(given.rects, USUAL_RECTS, MOST_RECTS)?;
+    let make = seed_or_none(given.make)?;
     let image = image_or_none(alloc, given.image)?;
     Ok(Plan {
         rects,
         workers,
         image,
-        make: None,
+        make,
     })
 }

@@ -22,4 +22,5 @@ returns-clause-values c =
       workers = value_given c.args.program _ p c.in_ok-matches.matches (codes "workers") c.get_str.result found.1 c.get_str.ensures;
       rects = value_given c.args.program _ p c.in_ok-matches.matches (codes "rects") c.get_str-2.result found.1 c.get_str-2.ensures;
       image = value_given c.args.program _ p c.in_ok-matches.matches (codes "image") c.get_str-3.result found.1 c.get_str-3.ensures;
+      make = value_given c.args.program _ p c.in_ok-matches.matches (codes "make") c.get_str-4.result found.1 c.get_str-4.ensures;
     }
