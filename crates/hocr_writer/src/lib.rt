@@ -1,4 +1,4 @@
-//! Writes the layout of a page as a document in the manner of hOCR 1.2.
+//! Writes the layout of a page as a document in the manner of hOCR 1.2, and as a summary of its counts.
 #![tactic(auto)]
 
 mod areas;
@@ -7,6 +7,7 @@ mod document;
 mod layout;
 mod lines;
 mod order;
+mod summary;
 #[cfg(test)]
 mod tests;
 mod text;
@@ -15,3 +16,4 @@ mod whole;
 pub use document::hocr_text;
 pub use layout::{Layout, Mark, Marks};
 pub use std::alloc::AllocError as OutOfMemory;
+pub use summary::summary_text;

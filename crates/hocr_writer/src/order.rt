@@ -1,4 +1,4 @@
-//! The line that says how the text lines of a page are ordered.
+//! How the text lines of a page are ordered: in words, and as a line of the document.
 ghost use Rattle.std.specs.Prelude.{◌≡◌, ◌++◌, ◌∷◌, [], codes, decimal, OnOk};
 ghost use Rattle.hocr_writer.specs.Pieces.{joined, numbered};
 ghost use Rattle.hocr_writer.specs.Document.{cycle_text, order_text, order_line};
@@ -28,8 +28,8 @@ fn put_cycle(text: &mut Text, cycle: &Numbers) -> Result<(), OutOfMemory>
     Ok(())
 }
 
-// Whether there is an order of the lines, or else the cycle that forbids it.
-fn put_order(text: &mut Text, order: &Order) -> Result<(), OutOfMemory>
+/// Whether there is an order of the lines, or else the cycle that forbids it.
+pub fn put_order(text: &mut Text, order: &Order) -> Result<(), OutOfMemory>
     ensures grown { OnOk result (text.new ≡ text.old ++ order_text order.now) }
 {
     match order {

@@ -1,5 +1,5 @@
-//! Documents that were written down by hand from the format, line by line.
-use crate::{Layout, Mark, Marks, hocr_text};
+//! Documents and summaries that were written down by hand from the format, line by line.
+use crate::{Layout, Mark, Marks, hocr_text, summary_text};
 use layout_geom::{Area, Areas, Name, Numbers, Order, Rect, Rects};
 use std::alloc::Global;
 use std::test::Fail;
@@ -22,6 +22,7 @@ struct Case {
     // The first position, the count and the box of each area.
     areas: &'static [(u32, u32, Sides)],
     document: &'static [u8],
+    summary: &'static [u8],
 }
 
 // 16 by 16, all white.
@@ -163,6 +164,7 @@ const CASES: [Case; 5] = [
         order: &[],
         areas: &[],
         document: BLANK_PAGE,
+        summary: b"page 16 16\nblack 0\ncomponents 12\nmedian 10\nrectangles 1\ngutters 0\nlines 0\nareas 0\norder topological\n",
     },
     Case {
         name: "three glyphs",
@@ -184,6 +186,7 @@ const CASES: [Case; 5] = [
         order: &[0],
         areas: &[(0, 1, [10, 10, 60, 20])],
         document: THREE_GLYPHS,
+        summary: b"page 100 40\nblack 300\ncomponents 12\nmedian 10\nrectangles 6\ngutters 0\nlines 1\nareas 1\norder topological\n",
     },
     Case {
         name: "two columns",
@@ -205,6 +208,7 @@ const CASES: [Case; 5] = [
         order: &[0, 2, 4, 1, 3, 5],
         areas: &[(0, 3, [2, 2, 36, 36]), (3, 3, [48, 2, 82, 36])],
         document: TWO_COLUMNS,
+        summary: b"page 84 41\nblack 1800\ncomponents 12\nmedian 10\nrectangles 1\ngutters 1\nlines 6\nareas 2\norder topological\n",
     },
     Case {
         name: "slanted lines",
@@ -219,6 +223,7 @@ const CASES: [Case; 5] = [
         order: &[1, 0],
         areas: &[(0, 1, [0, 20, 1010, 40]), (1, 1, [0, 20, 1010, 40])],
         document: SLANTED_LINES,
+        summary: b"page 65535 65535\nblack 18446744073709551615\ncomponents 12\nmedian 10\nrectangles 0\ngutters 0\nlines 2\nareas 2\norder topological\n",
     },
     Case {
         name: "cycle",
@@ -237,6 +242,7 @@ const CASES: [Case; 5] = [
         order: &[2, 0],
         areas: &[(0, 2, [0, 0, 60, 30]), (2, 1, [40, 40, 60, 50])],
         document: CYCLE,
+        summary: b"page 100 60\nblack 0\ncomponents 12\nmedian 10\nrectangles 0\ngutters 0\nlines 3\nareas 2\norder cycle 2 0\n",
     },
 ];
 
@@ -323,6 +329,17 @@ fn documents_are_as_the_format_says(rt: HostRuntime) -> Result<(), Fail> {
         let text = hocr_text(rt.alloc(), &layout)?;
         let name = case.name;
         assert_eq!(rt; text.as_slice(), case.document, "{name}");
+    }
+    Ok(())
+}
+
+#[test]
+fn summaries_are_as_the_format_says(rt: HostRuntime) -> Result<(), Fail> {
+    for case in &CASES {
+        let layout = layout_of(rt.alloc(), case)?;
+        let text = summary_text(rt.alloc(), &layout)?;
+        let name = case.name;
+        assert_eq!(rt; text.as_slice(), case.summary, "{name}");
     }
     Ok(())
 }

@@ -1,0 +1,11 @@
+use Rattle.hocr_writer.proofs.Joined.{grown_more, grown_last}
+use Rattle.hocr_writer.proofs.summary.put_found_order_line.Goals as goal
+
+pub returns : goal.returns
+returns c =
+    record {
+      grown =
+          grown_more _ _ _ _ _ c.in_ok-push.ensures.grown (
+          grown_more _ _ _ _ _ c.in_ok-put_order.ensures.grown (
+          grown_last _ _ _ c.in_ok-push-2.ensures.grown));
+    }

@@ -1,0 +1,68 @@
+//! The summary of a layout: its counts.
+ghost use Rattle.std.specs.Prelude.{◌≡◌, ◌++◌, ◌∷◌, [], codes, OnOk, IfOk};
+ghost use Rattle.hocr_writer.specs.Pieces.{joined};
+ghost use Rattle.hocr_writer.specs.Summary.{size_line, found_order_line, summary_of};
+
+use crate::layout::Layout;
+use crate::order::put_order;
+use crate::text::Text;
+use itoa::Integer;
+use std::alloc::{AllocError as OutOfMemory, Global};
+
+// The size of the page.
+fn put_size_line(text: &mut Text, layout: &Layout) -> Result<(), OutOfMemory>
+    ensures grown { OnOk result (text.new ≡ text.old ++ size_line layout.now) }
+{
+    text.push(b"page ")?;
+    text.push_number(layout.width)?;
+    text.push(b" ")?;
+    text.push_number(layout.height)?;
+    text.push(b"\n")?;
+    Ok(())
+}
+
+// A count, behind what is counted.
+fn put_count_line<I: Integer>(text: &mut Text, counted: &[u8], count: I) -> Result<(), OutOfMemory>
+    ensures grown { OnOk result (text.new ≡ text.old ++ joined (counted.now ∷ I.text count ∷ codes "\n" ∷ [])) }
+{
+    text.push(counted)?;
+    text.push_number(count)?;
+    text.push(b"\n")?;
+    Ok(())
+}
+
+// How the text lines are ordered.
+fn put_found_order_line(text: &mut Text, layout: &Layout) -> Result<(), OutOfMemory>
+    ensures grown { OnOk result (text.new ≡ text.old ++ found_order_line layout.now) }
+{
+    text.push(b"order ")?;
+    put_order(text, &layout.order)?;
+    text.push(b"\n")?;
+    Ok(())
+}
+
+/// The summary of a layout: nine lines, with the size of the page in pixels, the counts of its black
+/// pixels and kept components, their median height in pixels, the counts of the white rectangles, of
+/// the gutters, of the text lines and of the areas, and how the lines are ordered. The number of the
+/// page and the name of its image do not stand in it.
+///
+/// The text is ASCII, and each of its lines ends with one line feed.
+///
+/// # Errors
+///
+/// Want of memory is the one refusal.
+pub fn summary_text(alloc: Global, layout: &Layout) -> Result<Vec<u8>, OutOfMemory>
+    ensures text { IfOk result (λ text. text.items ≡ summary_of layout.now) }
+{
+    let mut text = Text::new(alloc);
+    put_size_line(&mut text, layout)?;
+    put_count_line(&mut text, b"black ", layout.black)?;
+    put_count_line(&mut text, b"components ", layout.kept)?;
+    put_count_line(&mut text, b"median ", layout.median)?;
+    put_count_line(&mut text, b"rectangles ", layout.whites.len())?;
+    put_count_line(&mut text, b"gutters ", layout.gutters.len())?;
+    put_count_line(&mut text, b"lines ", layout.lines.len())?;
+    put_count_line(&mut text, b"areas ", layout.areas.len())?;
+    put_found_order_line(&mut text, layout)?;
+    Ok(text.into_bytes())
+}
