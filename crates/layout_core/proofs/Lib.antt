@@ -3,3 +3,4 @@ pub mod Components
 pub mod Rising
 pub mod Inside
 pub mod Wholes
+pub mod Planning

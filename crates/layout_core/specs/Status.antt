@@ -1,5 +1,5 @@
 -- How a run ends: its refusals, their statuses, and why each comes.
-use Rattle.std.specs.Prelude.{◌≡◌, ◌<◌, ◌≤◌, ◌⊎◌, ⊤, ℕ, List, length, take, Option, Result, Err, IfSome, IsErr, IfErr}
+use Rattle.std.specs.Prelude.{◌≡◌, ◌<◌, ◌≤◌, ◌⊎◌, ⊤, ℕ, List, length, take, Option, None, Some, Result, Err, IfSome, IsErr, IfErr}
 use Rattle.std.specs.Io.KnownBytes.{append_known}
 use Rattle.layout_outside.specs.Causes.{Rose}
 use Rattle.pbm_reader.specs.declared.fault.PageFault.{PageFault}
@@ -18,6 +18,14 @@ use Rattle.layout_core.specs.declared.refusal.Refusal.TheVariants as refusals
 -- the words of a command line tell a program what to do
 abbrev pub IsPlanned : Program → List (List ℕ) → Type 0
 IsPlanned program words = (plan : Plan) × HasPlan program words plan
+
+-- they tell it to read a page
+abbrev pub IsReading : Program → List (List ℕ) → Type 0
+IsReading program words = (plan : Plan) × HasPlan program words plan × (plan.make ≡ None)
+
+-- they tell it to make a page from a seed
+abbrev pub IsMaking : Program → List (List ℕ) → Type 0
+IsMaking program words = (plan : Plan) × (seed : ℕ) × HasPlan program words plan × (plan.make ≡ Some seed)
 
 -- the status of a page that was not read
 abbrev pub fault_status : PageFault → ℕ

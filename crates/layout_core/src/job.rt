@@ -1,5 +1,5 @@
 //! A run whose words have a plan, by any searchers.
-ghost use Rattle.std.specs.Prelude.{◌≡◌, ◌≢◌, ◌⊎◌, ◌≤◌, ℕ, List, Some, map, string_bytes};
+ghost use Rattle.std.specs.Prelude.{◌≡◌, ◌≢◌, ◌⊎◌, ◌≤◌, ℕ, List, None, Some, map, string_bytes};
 ghost use Rattle.layout_outside.specs.Causes.{Rose};
 ghost use Rattle.pbm_reader.specs.declared.fault.PageFault.{PageFault};
 ghost use Rattle.pbm_reader.specs.Page.{Page};
@@ -7,23 +7,23 @@ ghost use Rattle.pbm_reader.specs.Spelling.{Spells};
 ghost use Rattle.pbm_reader.specs.Fault.{HasFault};
 ghost use Rattle.command_words.specs.Plans.{HasPlan};
 ghost use Rattle.layout_core.specs.Layouts.{HasFewComponents, HasTooMany};
-ghost use Rattle.layout_core.specs.Run.{WritesDocument, FrontOfDocument};
+ghost use Rattle.layout_core.specs.Run.{WritesOutput, FrontOfOutput};
 ghost use Rattle.layout_core.specs.Line.{line_of, fault_line};
 ghost use Rattle.layout_core.specs.Status.{IsStatus, fault_status, WritesLine, RefusesPage, RefusesComponents, IsUndecided};
 ghost use Rattle.layout_core.specs.declared.refusal.Refusal.{Refusal};
 
-use crate::reading::read_layout;
-use crate::refusal::{Refusal, refuse};
+use crate::document::write_document;
+use crate::summary::write_summary;
 use box_search::Searcher;
 use command_words::{Plan, Program};
-use hocr_writer::hocr_text;
-use layout_outside::{Sink, Source, put_all};
+use layout_outside::{Sink, Source};
 use line_search::Grid;
 use std::alloc::Global;
 use whitespace_cover::White;
 
-/// Reads a page from the source, writes the document of its layout by the plan to `out`, and answers the status of the
-/// run, which is not 2. The words are those of the program, and this is their plan.
+/// Does what the plan says: reads a page from the source and writes the document of its layout to `out`, or makes the page
+/// of a seed and writes the summary of its layout. It answers the status of the run, which is not 2. The words are those of
+/// the program, and this is their plan.
 pub(crate) fn lay_out<F: Searcher<White>, G: Searcher<Grid>, S: Source, K: Sink, E: Sink>(
     alloc: Global,
     program: Program,
@@ -41,41 +41,41 @@ pub(crate) fn lay_out<F: Searcher<White>, G: Searcher<Grid>, S: Source, K: Sink,
     requires some { 1 ≤ plan.now.rects }
     requires few { plan.now.rects ≤ 256 }
     ensures statuses { IsStatus result × (result ≢ 2) }
-    ensures done { result ≡ 0 → WritesDocument program (map string_bytes words.now)
+    ensures done { result ≡ 0 → WritesOutput program (map string_bytes words.now)
         (S.left src.old) (S.left src.new) (K.written out.old) (K.written out.new) }
     ensures silent { result ≡ 0 → err.new ≡ err.old }
-    ensures bad_page { result ≡ 3 → RefusesPage 3 (S.left src.old)
+    ensures unread { (seed : ℕ) → plan.now.make ≡ Some seed → src.new ≡ src.old }
+    ensures bad_page { result ≡ 3 → (plan.now.make ≡ None) × RefusesPage 3 (S.left src.old)
         (E.written err.old) (E.written err.new) (E.faults err.old) (E.faults err.new) }
-    ensures faulty { (input : List ℕ) (fault : PageFault) → S.left src.old ≡ Some input → HasFault input fault
+    ensures faulty { plan.now.make ≡ None → (input : List ℕ) (fault : PageFault) → S.left src.old ≡ Some input → HasFault input fault
         → ¬ Rose (S.faults src.old) (S.faults src.new) → (result ≡ fault_status fault) ⊎ (result ≡ 7) }
-    ensures limited { result ≡ 4 → RefusesPage 4 (S.left src.old)
+    ensures limited { result ≡ 4 → (plan.now.make ≡ None) × (RefusesPage 4 (S.left src.old)
         (E.written err.old) (E.written err.new) (E.faults err.old) (E.faults err.new)
         ⊎ RefusesComponents (S.left src.old) (S.left src.new)
-        (E.written err.old) (E.written err.new) (E.faults err.old) (E.faults err.new) }
-    ensures limit { (input : List ℕ) (page : Page) (count : ℕ) → S.left src.old ≡ Some input → Spells input page
+        (E.written err.old) (E.written err.new) (E.faults err.old) (E.faults err.new)) }
+    ensures limit { plan.now.make ≡ None → (input : List ℕ) (page : Page) (count : ℕ) → S.left src.old ≡ Some input → Spells input page
         → HasTooMany page count → ¬ Rose (S.faults src.old) (S.faults src.new) → (result ≡ 4) ⊎ (result ≡ 7) }
-    ensures read_fault { result ≡ 5 → Rose (S.faults src.old) (S.faults src.new)
+    ensures read_fault { result ≡ 5 → (plan.now.make ≡ None) × Rose (S.faults src.old) (S.faults src.new)
         × IsUndecided (S.left src.old) (S.left src.new)
         × WritesLine (E.written err.old) (E.written err.new) (E.faults err.old) (E.faults err.new) (fault_line PageFault.ReadFault) }
     ensures write_fault { result ≡ 6 → Rose (K.faults out.old) (K.faults out.new)
-        × FrontOfDocument program (map string_bytes words.now) (S.left src.old) (S.left src.new) (K.written out.old) (K.written out.new)
+        × FrontOfOutput program (map string_bytes words.now) (S.left src.old) (S.left src.new) (K.written out.old) (K.written out.new)
         × WritesLine (E.written err.old) (E.written err.new) (E.faults err.old) (E.faults err.new) (line_of Refusal.WriteFault) }
     ensures memory { result ≡ 7 →
         WritesLine (E.written err.old) (E.written err.new) (E.faults err.old) (E.faults err.new) (line_of Refusal.Memory) }
     ensures unwritten { result ≢ 0 → result ≢ 6 → out.new ≡ out.old }
-    ensures complete { (input : List ℕ) (page : Page) → S.left src.old ≡ Some input → Spells input page
+    ensures complete { plan.now.make ≡ None → (input : List ℕ) (page : Page) → S.left src.old ≡ Some input → Spells input page
         → HasFewComponents page → ¬ Rose (S.faults src.old) (S.faults src.new)
         → (result ≡ 0) ⊎ ((result ≡ 6) × Rose (K.faults out.old) (K.faults out.new)) ⊎ (result ≡ 7) }
+    ensures made { (seed : ℕ) → plan.now.make ≡ Some seed
+        → (result ≡ 0) ⊎ ((result ≡ 6) × Rose (K.faults out.old) (K.faults out.new)) ⊎ (result ≡ 7) }
 {
-    let layout = match read_layout(alloc, plan, for_whites, for_lines, src) {
-        Ok(layout) => layout,
-        Err(refusal) => return refuse(err, refusal),
-    };
-    let Ok(text) = hocr_text(alloc, &layout) else {
-        return refuse(err, Refusal::Memory);
-    };
-    match put_all(out, &text) {
-        Ok(()) => 0,
-        Err(_) => refuse(err, Refusal::WriteFault),
+    match plan.make {
+        None => write_document(
+            alloc, program, words, plan, for_whites, for_lines, src, out, err,
+        ),
+        Some(seed) => write_summary(
+            alloc, program, words, plan, seed, for_whites, for_lines, out, err,
+        ),
     }
 }

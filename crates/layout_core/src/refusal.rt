@@ -10,8 +10,8 @@ use itoa::Buffer;
 use layout_outside::{Sink, put_all};
 use pbm_reader::PageFault;
 
-/// A line that takes no memory: the longest has 55 bytes.
-pub type Line = ArrayString<64>;
+/// A line that takes no memory: the longest has 69 bytes.
+pub type Line = ArrayString<80>;
 
 /// Why a run ended without a document.
 #[derive(Debug, Clone, Copy, PartialEq, Eq, Drop)]
@@ -130,7 +130,7 @@ fn line_of_fault(fault: &PageFault) -> Line
 
 /// A line that is always the same.
 fn line_from(text: &str) -> Line
-    requires { length text.now ≤ 64 }
+    requires { length text.now ≤ 80 }
     ensures { result.bytes ≡ text.now }
 {
     let mut line = Line::new();
@@ -158,8 +158,10 @@ fn line_of_usage(program: Program) -> Line
     ensures { result.bytes ≡ usage_of program }
 {
     match program {
-        Program::Alone => line_from("usage: layout1 [--rects N] [--image NAME]\n"),
-        Program::Shared => line_from("usage: layout [--workers N] [--rects N] [--image NAME]\n"),
+        Program::Alone => line_from("usage: layout1 [--rects N] [--image NAME] [--make SEED]\n"),
+        Program::Shared => {
+            line_from("usage: layout [--workers N] [--rects N] [--image NAME] [--make SEED]\n")
+        },
     }
 }
 

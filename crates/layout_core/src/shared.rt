@@ -11,15 +11,15 @@ ghost use Rattle.box_search.specs.Search.{IsGreatestKey};
 ghost use Rattle.whitespace_cover.specs.Problem as whites;
 ghost use Rattle.line_search.specs.Problem as grids;
 ghost use Rattle.layout_core.specs.Layouts.{HasFewComponents, HasTooMany};
-ghost use Rattle.layout_core.specs.Run.{WritesDocument, FrontOfDocument};
+ghost use Rattle.layout_core.specs.Run.{WritesOutput, FrontOfOutput};
 ghost use Rattle.layout_core.specs.Line.{line_of, fault_line};
-ghost use Rattle.layout_core.specs.Status.{IsPlanned, IsStatus, fault_status, WritesLine, RefusesPage, RefusesComponents, IsUndecided};
+ghost use Rattle.layout_core.specs.Status.{IsPlanned, IsReading, IsMaking, IsStatus, fault_status, WritesLine, RefusesPage, RefusesComponents, IsUndecided};
 ghost use Rattle.layout_core.specs.declared.refusal.Refusal.{Refusal};
 
 use crate::job::lay_out;
 use crate::refusal::{Refusal, refuse};
 use box_search::{FromFn, OutOfMemory};
-use command_words::{Plan, Program, WordFault, words_of};
+use command_words::{Plan, Program, WordFault, words_have_one_plan, words_of};
 use layout_outside::{Sink, Source};
 use lease_workers::{Gate, Workers};
 use line_search::Grid;
@@ -43,9 +43,9 @@ pub fn layout_shared<R: Threads + Wait + Sync, S: Source, K: Sink, E: Sink, G: G
     gate: &G,
 ) -> u8
     ensures statuses { IsStatus result }
-    // The words have a plan, the input was read to its end, it spells a page, and just the document of the page's layout by
-    // that plan was written.
-    ensures done { result ≡ 0 → WritesDocument Program.Shared (map string_bytes words.now)
+    // The headline: the words have a plan, the input was read to its end, it spells a page, and just the document of the
+    // page's layout by that plan was written; or the plan has a seed, and just the summary of the layout of its page was.
+    ensures done { result ≡ 0 → WritesOutput Program.Shared (map string_bytes words.now)
         (S.left src.old) (S.left src.new) (K.written out.old) (K.written out.new) }
     ensures silent { result ≡ 0 → err.new ≡ err.old }
 
@@ -56,26 +56,26 @@ pub fn layout_shared<R: Threads + Wait + Sync, S: Source, K: Sink, E: Sink, G: G
     ensures planned { result ≢ 2 → result ≢ 7 → IsPlanned Program.Shared (map string_bytes words.now) }
 
     // 3 or 4 comes exactly where the input has a fault of that status and the run reaches it, and the line names the fault.
-    ensures bad_page { result ≡ 3 → RefusesPage 3 (S.left src.old)
+    ensures bad_page { result ≡ 3 → IsReading Program.Shared (map string_bytes words.now) × RefusesPage 3 (S.left src.old)
         (E.written err.old) (E.written err.new) (E.faults err.old) (E.faults err.new) }
-    ensures faulty { IsPlanned Program.Shared (map string_bytes words.now) → (input : List ℕ) (fault : PageFault) → S.left src.old ≡ Some input → HasFault input fault
+    ensures faulty { IsReading Program.Shared (map string_bytes words.now) → (input : List ℕ) (fault : PageFault) → S.left src.old ≡ Some input → HasFault input fault
         → ¬ Rose (S.faults src.old) (S.faults src.new) → (result ≡ fault_status fault) ⊎ (result ≡ 7) }
 
     // 4 comes also exactly where more than 60,000 components are kept and the run reaches it, and the line counts them.
-    ensures limited { result ≡ 4 → RefusesPage 4 (S.left src.old)
+    ensures limited { result ≡ 4 → IsReading Program.Shared (map string_bytes words.now) × (RefusesPage 4 (S.left src.old)
         (E.written err.old) (E.written err.new) (E.faults err.old) (E.faults err.new)
         ⊎ RefusesComponents (S.left src.old) (S.left src.new)
-        (E.written err.old) (E.written err.new) (E.faults err.old) (E.faults err.new) }
-    ensures limit { IsPlanned Program.Shared (map string_bytes words.now) → (input : List ℕ) (page : Page) (count : ℕ) → S.left src.old ≡ Some input → Spells input page
+        (E.written err.old) (E.written err.new) (E.faults err.old) (E.faults err.new)) }
+    ensures limit { IsReading Program.Shared (map string_bytes words.now) → (input : List ℕ) (page : Page) (count : ℕ) → S.left src.old ≡ Some input → Spells input page
         → HasTooMany page count → ¬ Rose (S.faults src.old) (S.faults src.new) → (result ≡ 4) ⊎ (result ≡ 7) }
 
-    ensures read_fault { result ≡ 5 → Rose (S.faults src.old) (S.faults src.new)
+    ensures read_fault { result ≡ 5 → IsReading Program.Shared (map string_bytes words.now) × Rose (S.faults src.old) (S.faults src.new)
         × IsUndecided (S.left src.old) (S.left src.new)
         × WritesLine (E.written err.old) (E.written err.new) (E.faults err.old) (E.faults err.new) (fault_line PageFault.ReadFault) }
 
     // A page was read, and a proper front of its document was written.
     ensures write_fault { result ≡ 6 → Rose (K.faults out.old) (K.faults out.new)
-        × FrontOfDocument Program.Shared (map string_bytes words.now) (S.left src.old) (S.left src.new) (K.written out.old) (K.written out.new)
+        × FrontOfOutput Program.Shared (map string_bytes words.now) (S.left src.old) (S.left src.new) (K.written out.old) (K.written out.new)
         × WritesLine (E.written err.old) (E.written err.new) (E.faults err.old) (E.faults err.new) (line_of Refusal.WriteFault) }
 
     ensures memory { result ≡ 7 →
@@ -83,10 +83,16 @@ pub fn layout_shared<R: Threads + Wait + Sync, S: Source, K: Sink, E: Sink, G: G
     ensures unwritten { result ≢ 0 → result ≢ 6 → out.new ≡ out.old }
 
     // A page with few components that no read failed on is done, unless a write failed or memory was refused.
-    ensures complete { IsPlanned Program.Shared (map string_bytes words.now) → (input : List ℕ) (page : Page) → S.left src.old ≡ Some input → Spells input page
+    ensures complete { IsReading Program.Shared (map string_bytes words.now) → (input : List ℕ) (page : Page) → S.left src.old ≡ Some input → Spells input page
         → HasFewComponents page → ¬ Rose (S.faults src.old) (S.faults src.new)
         → (result ≡ 0) ⊎ ((result ≡ 6) × Rose (K.faults out.old) (K.faults out.new)) ⊎ (result ≡ 7) }
+
+    // A run on a made page reads nothing, and ends with 0, 6 or 7.
+    ensures unread { IsMaking Program.Shared (map string_bytes words.now) → src.new ≡ src.old }
+    ensures made { IsMaking Program.Shared (map string_bytes words.now) → (result ≡ 0) ⊎ ((result ≡ 6) × Rose (K.faults out.old) (K.faults out.new)) ⊎ (result ≡ 7) }
 {
+    // The law of the words.
+    words_have_one_plan();
     let plan = match words_of(alloc, words, Program::Shared) {
         Ok(plan) => plan,
         Err(fault) => match fault {

@@ -2,7 +2,7 @@ use Rattle.std.proofs.Common.{◌≡◌, Err, sym, ap, ◌∙◌, rules}
 use Rattle.layout_core.specs.declared.refusal.Refusal.TheVariants.{Page, TooMany}
 use Rattle.layout_core.proofs.Ends.{ends_bad, ends_limited, ends_unread, ends_unmade, ends_answered, ends_memory}
 use Rattle.layout_core.proofs.Wholes.{whole_layout}
-use Rattle.layout_core.proofs.job.lay_out.Goals as goal
+use Rattle.layout_core.proofs.document.write_document.Goals as goal
 
 pub returns-in-Err-clause-bad_page : goal.returns-in-Err-clause-bad_page
 returns-in-Err-clause-bad_page g c =
