@@ -1,0 +1,8 @@
+-- How many components a made page has.
+use Rattle.std.specs.Prelude.{ℕ, ◌≤◌}
+use Rattle.components.specs.Kept.{IsKeptCount}
+use Rattle.made_page.specs.Made.{made_page}
+
+-- at most one component is kept for each block: 1936 glyphs and 44 specks
+abbrev pub MadePageHasFewComponents : Type 0
+MadePageHasFewComponents = (seed count : ℕ) → IsKeptCount (made_page seed) count → count ≤ 1980
