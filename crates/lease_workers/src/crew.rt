@@ -9,10 +9,10 @@ ghost use Rattle.lease_workers.specs.Working.{NamesOnly};
 use crate::gate::Gate;
 use bound_word::BoundWord;
 use box_search::{Lease, Node, OutOfMemory, Space, Step, Take, Unfinished};
+use crossbeam_utils::sync::EventCount;
 use frontier_turn::{Pass, Shared};
 use std::alloc::Global;
 use std::sync::Wait;
-use std::thread::yield_now;
 
 /// Which worker it is, and how many turns it began.
 #[derive(Drop)]
@@ -40,6 +40,8 @@ pub(crate) struct Crew<'a, 's, S: Space, R, G> {
     pub(crate) space: &'a S,
     pub(crate) shared: &'a Shared<'s, S>,
     pub(crate) gate: &'a G,
+    /// That nodes were opened, or that a worker ended.
+    pub(crate) news: &'a EventCount,
 }
 
 /// Drops the nodes whose bound is no greater than the word.
@@ -62,6 +64,37 @@ impl<'a, 's, S: Space, R: Wait, G: Gate> Crew<'a, 's, S, R, G> {
         let mut turn = self.shared.enter(self.rt, pass);
         let take = turn.lease();
         (take, turn.leave())
+    }
+
+    /// Leases a node in a turn. Where nothing is open and others have leases it waits for news, and answers `Idle`.
+    ///
+    /// It looks a second time once it has announced that it will wait, since whoever ends a lease or gives one back
+    /// tells it afterwards: either this look sees what came of it, or the wait ends.
+    fn take_or_wait(&self, turns: &mut Turns, pass: Pass<S>) -> (Take<S::Work>, Pass<S>)
+        requires own { IsOwn self.now.shared.now pass }
+        requires unnamed { pass.view.rest.leases ≡ [] }
+        ensures own { IsOwn self.now.shared.now result.1 }
+        ensures parts { result.1.view.rest.parts ≡ pass.view.rest.parts }
+        ensures named { NamesOnly (S.fits self.now.shared.now.problem) result.0 result.1.view.rest.leases }
+    {
+        match self.take_lease(turns, pass) {
+            (Take::Idle, pass) => {
+                let key = self.news.prepare_wait();
+                let (take, pass) = self.take_lease(turns, pass);
+                if let Take::Idle = take {
+                    key.wait(self.rt);
+                }
+                (take, pass)
+            }
+            found => found,
+        }
+    }
+
+    /// Wakes as many of those that wait.
+    fn wake(&self, count: usize) {
+        for _ in 0..count {
+            self.news.notify_one();
+        }
     }
 
     /// The word by which a node may be pruned, which the pass has read or raised, and the nodes above that word which
@@ -118,9 +151,14 @@ impl<'a, 's, S: Space, R: Wait, G: Gate> Crew<'a, 's, S, R, G> {
         ensures unnamed { result.1.view.rest.leases ≡ [] }
     {
         turns.pass_gate(self.gate);
+        let opened = nodes.len();
         let mut turn = self.shared.enter(self.rt, pass);
         match turn.finish(lease, nodes, seen) {
-            Ok(()) => (true, turn.leave()),
+            Ok(()) => {
+                let pass = turn.leave();
+                self.wake(opened);
+                (true, pass)
+            }
             Err(unfinished) => {
                 let Unfinished { lease, nodes } = unfinished;
                 turn.reopen(lease);
@@ -168,7 +206,8 @@ impl<'a, 's, S: Space, R: Wait, G: Gate> Crew<'a, 's, S, R, G> {
         }
     }
 
-    /// Works until nothing is left, or until memory is refused. Then no lease is named.
+    /// Works until nothing is left, or until memory is refused. Then no lease is named, and it wakes all that wait:
+    /// nothing is left, or a node is open again.
     pub(crate) fn work(&self, alloc: Global, worker: u32, pass: Pass<S>) -> Pass<S>
         requires space { self.now.shared.now.problem ≡ S.problem self.now.space.now }
         requires own { IsOwn self.now.shared.now pass }
@@ -180,13 +219,10 @@ impl<'a, 's, S: Space, R: Wait, G: Gate> Crew<'a, 's, S, R, G> {
         let mut turns = Turns::of_worker(worker);
         let mut mine = pass;
         for _ in self.rt.forever() {
-            let (take, after) = self.take_lease(&mut turns, mine);
+            let (take, after) = self.take_or_wait(&mut turns, mine);
             let (more, after) = match take {
                 Take::Done => (false, after),
-                Take::Idle => {
-                    yield_now();
-                    (true, after)
-                }
+                Take::Idle => (true, after),
                 Take::Leased(lease) => self.work_off(alloc, &mut turns, after, lease),
             };
             mine = after;
@@ -194,6 +230,7 @@ impl<'a, 's, S: Space, R: Wait, G: Gate> Crew<'a, 's, S, R, G> {
                 break;
             }
         }
+        self.news.notify_all();
         mine
     }
 }

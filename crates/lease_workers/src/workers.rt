@@ -7,26 +7,39 @@ ghost use Rattle.frontier_turn.specs.Callers.{IsOwn};
 use crate::crew::Crew;
 use crate::gate::Gate;
 use box_search::{OutOfMemory, Space};
+use crossbeam_utils::sync::EventCount;
 use frontier_turn::{Pass, Shared};
 use std::alloc::Global;
-use std::marker::PhantomData;
+use std::marker::{Model, PhantomData};
 use std::sync::Wait;
 use std::thread::{Threads, join};
 
 /// A search by several workers on one frontier, each in a thread of its own, or one after the other where no thread can
 /// be made. Each worker passes a gate before each of its turns.
+///
+/// Contracts see how many workers there are.
 #[derive(Drop)]
 pub struct Workers<'g, R, G> {
     count: u32,
     gate: &'g G,
     run: PhantomData<R>,
-    ghost counts: { (1 ≤ count) × (count ≤ 64) },
+}
+
+impl<'g, R, G> Model for Workers<'g, R, G> {
+    ghost use Rattle.std.specs.Prelude.{ℕ, ◌≤◌};
+
+    ghost Value = { ℕ };
+
+    ghost view = { λ workers. workers.count };
+
+    ghost invariant = { λ workers. (1 ≤ workers.count) × (workers.count ≤ 64) };
 }
 
 impl<'g, R: Threads + Wait + Sync, G: Gate> Workers<'g, R, G> {
     /// 1 to 64 workers.
     pub fn new(count: u32, gate: &'g G) -> Workers<'g, R, G>
         requires counts { (1 ≤ count) × (count ≤ 64) }
+        ensures count { result ≡ count }
     {
         Workers {
             count,
@@ -39,15 +52,18 @@ impl<'g, R: Threads + Wait + Sync, G: Gate> Workers<'g, R, G> {
     /// worker is refused memory its lease goes back, and after that the search may be asked for again. It may wait; what
     /// it promises holds if it returns.
     pub fn best<S: Space>(&mut self, alloc: Global, run: &R, space: &S) -> Result<u64, OutOfMemory>
+        ensures count { self.new ≡ self.old }
         ensures greatest { IfOk result (IsGreatestKey (S.admits (S.problem space.now))) }
     {
         let root = space.root(alloc)?;
         let (search, pass) = Shared::start(alloc, space, root)?;
+        let news = EventCount::new();
         let crew = Crew {
             rt: run,
             space,
             shared: &search,
             gate: self.gate,
+            news: &news,
         };
         let pass = work_together(&crew, alloc, pass, 0, self.count);
         let closed = search.close(pass);

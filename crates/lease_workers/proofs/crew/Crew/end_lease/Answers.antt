@@ -14,12 +14,12 @@ finish-requires-clause-replaces g c κs within =
     subst (λ (q : List ℤ). Replaces (S.admits q) (S.lies_in q) c.args.lease.node.shape c.args.seen c.args.nodes.items) (sym same) c.requires.replaces
 
 pub returns-in-Ok-clause-unnamed : goal.returns-in-Ok-clause-unnamed
-returns-in-Ok-clause-unnamed g c = ap (λ (v : View). v.rest.leases) c.leave.ensures.view
+returns-in-Ok-clause-unnamed g c = ap (λ (v : View). v.rest.leases) c.leave-pass.ensures.view
     ∙ none_left c.enter-turn.result c.finish.new.self c.args.lease c.args.pass.view.rest.leases c.enter-turn.ensures.leases c.requires.named c.in-Ok.ensures.names
 
 pub reopen-requires-clause-named : goal.reopen-requires-clause-named
 reopen-requires-clause-named g c κs within = still_named c.enter-turn.result c.finish.new.self c.args.lease c.in-Err.unfinished.lease c.args.pass.view.rest.leases c.enter-turn.ensures.leases c.requires.named c.finish.ensures.view c.in-Err.ensures.err c.in-Err.ensures.lease_returned
 
 pub returns-in-Err-clause-unnamed : goal.returns-in-Err-clause-unnamed
-returns-in-Err-clause-unnamed g c = ap (λ (v : View). v.rest.leases) c.leave-pass.ensures.view
+returns-in-Err-clause-unnamed g c = ap (λ (v : View). v.rest.leases) c.leave-pass-in-Err.ensures.view
     ∙ none_left_again c.enter-turn.result c.finish.new.self c.reopen.new.self c.args.lease c.in-Err.unfinished.lease c.args.pass.view.rest.leases c.enter-turn.ensures.leases c.requires.named c.finish.ensures.view c.in-Err.ensures.err c.reopen.ensures.names

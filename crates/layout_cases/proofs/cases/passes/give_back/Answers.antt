@@ -1,0 +1,11 @@
+use Rattle.std.proofs.Common.{ap, ◌∙◌}
+use Rattle.frontier_turn.specs.declared.view.View.{View}
+use Rattle.layout_cases.proofs.Working.{is_named, none_left}
+use Rattle.layout_cases.proofs.cases.passes.give_back.Goals as goal
+
+pub reopen-requires-clause-named : goal.reopen-requires-clause-named
+reopen-requires-clause-named g c κs within = is_named c.enter-turn.result c.args.lease c.args.pass.view.rest.leases c.enter-turn.ensures.leases c.requires.named
+
+pub returns-clause-unnamed : goal.returns-clause-unnamed
+returns-clause-unnamed g c = ap (λ (v : View). v.rest.leases) c.leave.ensures.view
+    ∙ none_left c.enter-turn.result c.reopen.new.self c.args.lease c.args.pass.view.rest.leases c.enter-turn.ensures.leases c.requires.named c.reopen.ensures.names

@@ -1,0 +1,7 @@
+//! Searches over the white space of a page: a bound word by hand, a shared frontier step by step, and workers.
+mod meeting;
+mod pages;
+mod passes;
+mod shared;
+mod word;
+mod workers;
