@@ -76,14 +76,14 @@ test_cases : (b : Bool) → (b ≡ true) ⊎ (b ≡ false)
 test_cases true = inl refl
 test_cases false = inr refl
 
-first_or_none : (p : ℕ → Bool) (f : ℕ → ℕ) (xs : List ℕ) → ((x : ℕ) × (p x ≡ true)) ⊎ (sum_by f (filter p xs) ≡ 0)
+pub first_or_none : (p : ℕ → Bool) (f : ℕ → ℕ) (xs : List ℕ) → ((x : ℕ) × (p x ≡ true)) ⊎ (sum_by f (filter p xs) ≡ 0)
 first_or_none p f [] = inr refl
 first_or_none p f (x ∷ xs) = ⊎_elim
     (λ yes. inl (x, yes))
     (λ no. ⊎_elim (λ found. inl found) (λ none. inr (rw no none)) (first_or_none p f xs))
     (test_cases (p x))
 
-in_its_column : (a c w : ℕ) → (eqb a c && ltb 0 w) ≡ true → a ≡ c
+pub in_its_column : (a c w : ℕ) → (eqb a c && ltb 0 w) ≡ true → a ≡ c
 in_its_column a c w holds = grind (arith, nat_tests)
 
 same_eqb : (a b : ℕ) → a ≡ b → eqb a b ≡ true

@@ -23,7 +23,7 @@ inner_first p x ys zs false true is stricter same = rw (is, same) refl
 inner_first p x ys zs false false is stricter same = same
 
 -- a stricter test keeps of the kept what it keeps of all
-filter_twice : (p q : ℕ → Bool) → ((x : ℕ) → p x ≡ true → q x ≡ true) → (xs : List ℕ) → filter p (filter q xs) ≡ filter p xs
+pub filter_twice : (p q : ℕ → Bool) → ((x : ℕ) → p x ≡ true → q x ≡ true) → (xs : List ℕ) → filter p (filter q xs) ≡ filter p xs
 filter_twice p q stricter [] = refl
 filter_twice p q stricter (x ∷ xs) = inner_first p x (filter q xs) (filter p xs) (p x) (q x) refl (stricter x) (filter_twice p q stricter xs)
 

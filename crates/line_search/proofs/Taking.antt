@@ -87,7 +87,7 @@ winner_is problem key high answer some s b decodes score in_column scored =
       is = subst (λ (n : ℕ). line_key n s b ≡ key) one key_here;
     }
 
-admits : (problem : Problem) (slope offset : ℤ) (score : ℕ) → IsAdmissibleIn problem slope offset score → IsAdmitted (numbers_of problem) (line_key score slope offset)
+pub admits : (problem : Problem) (slope offset : ℤ) (score : ℕ) → IsAdmissibleIn problem slope offset score → IsAdmitted (numbers_of problem) (line_key score slope offset)
 admits problem slope offset score point =
     on_numbers (HasPointOfKey (line_key score slope offset)) problem (record { slope = slope; offset = offset; score = score; has_key = refl; admissible = point })
 
@@ -122,7 +122,7 @@ filter_agrees p q (x ∷ xs) all =
     let others : filter p xs ≡ filter q xs = filter_agrees p q xs (All-tail (λ (y : ℕ). p y ≡ q y) x xs all) in
     rw (here, others) refl
 
-same_number : (x y : ℕ) → (x == y) ≡ true → x ≡ y
+pub same_number : (x y : ℕ) → (x == y) ≡ true → x ≡ y
 same_number x y e = grind (arith, nat_tests)
 
 itself : (x : ℕ) → (x == x) ≡ true
@@ -207,6 +207,10 @@ problem_with view problem same others rest are = cc
 -- the lines so far end well, whatever lines the rest has
 abbrev pub EndsWell : List Rect → List Rect → ℕ → List ℕ → List ℕ → List Line → Type 0
 EndsWell boxes gutters height start alive lines = (rest : List Line) → IsLineList boxes gutters height alive rest → IsLineList boxes gutters height start (lines ++ rest)
+
+pub none_yet : (boxes gutters : List Rect) (height : ℕ) (start alive : List ℕ) (lines : List Line) → alive ≡ start → lines ≡ [] → EndsWell boxes gutters height start alive lines
+none_yet boxes gutters height start alive lines same none = λ rest are.
+    subst (λ (xs : List Line). IsLineList boxes gutters height start (xs ++ rest)) (sym none) (subst (λ (xs : List ℕ). IsLineList boxes gutters height xs rest) same are)
 
 pub ended : (boxes gutters : List Rect) (height : ℕ) (start alive : List ℕ) (lines : List Line) → EndsWell boxes gutters height start alive lines → HasNoLine boxes gutters height alive → IsLineList boxes gutters height start lines
 ended boxes gutters height start alive lines ends none = subst (λ (xs : List Line). IsLineList boxes gutters height start xs) (append-nil lines) (ends [] none)

@@ -6,3 +6,4 @@ pub mod Shapes
 pub mod Bounds
 pub mod Parts
 pub mod GridLaws
+pub mod Windows

@@ -8,6 +8,7 @@ ghost use Rattle.line_search.specs.Lines.{AreLinesOf};
 use crate::characters::characters;
 use crate::grid::Grid;
 use crate::line::Lines;
+use crate::windows::{first_windows, greatest_key, searched_again};
 use box_search::Searcher;
 use components::Kept;
 use layout_geom::{OutOfMemory, Rects};
@@ -52,13 +53,16 @@ pub fn lines<F: Searcher<Grid>>(
     let alive = characters(alloc, kept)?;
     let boxes = copy_of(alloc, &kept.boxes)?;
     let mut grid = Grid::new(boxes, alive, copy_of(alloc, gutters)?, height);
+    let mut windows = first_windows(alloc, &mut grid, searcher)?;
     let mut lines = Lines::new(alloc);
     loop {
-        let key = searcher.best(alloc, &grid)?;
+        let key = greatest_key(windows.as_slice());
         if key == 0 {
             return Ok(lines);
         }
         let line = grid.take_line(alloc, key)?;
+        let members = line.members.as_slice();
+        windows = searched_again(alloc, &mut grid, windows.as_slice(), members, searcher)?;
         lines.push(line)?;
     }
 }

@@ -10,6 +10,7 @@ use layout_geom::{Numbers, OutOfMemory, Rects};
 use line_quality::{line_key, point_of, score_at};
 use std::alloc::Global;
 use std::marker::Model;
+use std::mem;
 
 /// The lines that a page may have, by their slopes and offsets, to be searched for the one of greatest
 /// key: a search for baselines by branch and bound, after Breuel (2002).
@@ -71,6 +72,39 @@ impl Grid {
         }
     }
 
+    /// The boxes of the page.
+    pub(crate) fn boxes(&self) -> &Rects
+        ensures { result.now ≡ self.now.boxes }
+    {
+        &self.boxes
+    }
+
+    /// The height of the page.
+    pub(crate) fn height(&self) -> u16
+        ensures { result ≡ self.now.height }
+    {
+        self.height
+    }
+
+    /// The positions of the boxes that are alive.
+    pub(crate) fn alive(&self) -> &Numbers
+        ensures value { result.now ≡ self.now.alive }
+        ensures few { length result.now ≤ 60000 }
+        ensures positions { All (λ position. position < length self.now.boxes) result.now }
+    {
+        &self.alive
+    }
+
+    /// Has others of the boxes alive from now on, and gives back those that were.
+    pub(crate) fn replace_alive(&mut self, alive: Numbers) -> Numbers
+        requires few { length alive ≤ 60000 }
+        requires positions { All (λ position. position < length self.old.boxes) alive }
+        ensures before { result ≡ self.old.alive }
+        ensures after { self.new ≡ record self.old { alive = alive } }
+    {
+        mem::replace(&mut self.alive, alive)
+    }
+
     /// The node of a shape. The stretch has at least the positions of the boxes that can weigh something for
     /// its lines.
     fn node_of(&self, alloc: Global, shape: Shape, span: Span) -> Result<Node<Span>, OutOfMemory>
@@ -124,6 +158,7 @@ impl Grid {
         ensures best { IfOk result (λ line. IsBestLine self.old.boxes self.old.gutters self.old.height self.old.alive line) }
         ensures rest { IfOk result (λ line. self.new ≡ record self.old { alive = without line.members self.old.alive }) }
         ensures fewer { OnOk result (length self.new.alive < length self.old.alive) }
+        ensures within { IfOk result (λ line. All (λ member. member < length self.old.boxes) line.members) }
     {
         let (slope, offset) = point_of(key);
         let score = score_at(slope, offset, &self.boxes, &self.alive, &self.gutters);

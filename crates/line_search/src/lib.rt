@@ -10,9 +10,11 @@ mod line;
 mod members;
 mod near;
 mod parts;
+mod rows;
 mod span;
 #[cfg(test)]
 mod tests;
+mod windows;
 
 pub use greedy::lines;
 pub use grid::Grid;

@@ -84,3 +84,15 @@ returns-clause-fewer c =
     let line = taken_line p c.args.key c.requires.high c.requires.greatest c.requires.some (rw (boxes, alive) at c.self.invariant.positions) c.point_of-slope.result.0 c.point_of-slope.result.1 c.point_of-slope.ensures score.score score.column division.members division.others
     (rw (boxes, gutters, alive) at c.score_at-score.ensures.score) (rw (boxes, gutters, alive) at c.in_ok-division.ensures.members) (rw (boxes, gutters, alive) at c.in_ok-division.ensures.others) in
     fewer_are p _ _ score.score score.column division.members division.others line.taken line.some
+
+pub returns-clause-within : goal.returns-clause-within
+returns-clause-within c =
+    let p : Problem = c.args.self.now in
+    let boxes = ap (λ (q : Problem). q.boxes) c.self.view_is in
+    let gutters = ap (λ (q : Problem). q.gutters) c.self.view_is in
+    let alive = ap (λ (q : Problem). q.alive) c.self.view_is in
+    let score = c.score_at-score.result in
+    let division = c.in_ok-division.division in
+    let line = taken_line p c.args.key c.requires.high c.requires.greatest c.requires.some (rw (boxes, alive) at c.self.invariant.positions) c.point_of-slope.result.0 c.point_of-slope.result.1 c.point_of-slope.ensures score.score score.column division.members division.others
+    (rw (boxes, gutters, alive) at c.score_at-score.ensures.score) (rw (boxes, gutters, alive) at c.in_ok-division.ensures.members) (rw (boxes, gutters, alive) at c.in_ok-division.ensures.others) in
+    line.within
