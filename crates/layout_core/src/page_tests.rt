@@ -1,8 +1,11 @@
 //! Pages of a few blocks, with documents that were worked out by hand.
-use crate::layout_alone;
+use crate::{layout_alone, layout_shared};
 use layout_outside::{MemSink, MemSource};
+use lease_workers::OpenGate;
 use std::alloc::Global;
+use std::sync::Wait;
 use std::test::Fail;
+use std::thread::Threads;
 
 type Block = [u16; 4];
 
@@ -37,15 +40,51 @@ fn is_black(blocks: &[Block], x: u32, y: u16) -> bool {
     false
 }
 
-// What a run writes of a page.
-fn laid_out(alloc: Global, input: Vec<u8>) -> Result<MemSink, Fail> {
-    let mut src = MemSource::new(input, 4096, Vec::new(alloc));
+// What the run on one thread writes of a page.
+fn laid_out_alone(alloc: Global, input: &[u8]) -> Result<MemSink, Fail> {
+    let mut src = MemSource::new(input.to_vec(alloc)?, 4096, Vec::new(alloc));
     let mut out = MemSink::with_room(alloc, 8192, 4096, Vec::new(alloc))?;
-    let mut err = MemSink::with_room(alloc, 64, 64, Vec::new(alloc))?;
+    let mut err = MemSink::with_room(alloc, 80, 80, Vec::new(alloc))?;
     match layout_alone(alloc, &[], &mut src, &mut out, &mut err) {
         0 => Ok(out),
         _ => Err("no document")?,
     }
+}
+
+// What a run by some workers writes of a page.
+fn laid_out_shared<R: Threads + Wait + Sync>(
+    rt: &R,
+    alloc: Global,
+    workers: &str,
+    input: &[u8],
+) -> Result<MemSink, Fail> {
+    let mut words = Vec::new(alloc);
+    words.push(String::from_str(alloc, "--workers")?)?;
+    words.push(String::from_str(alloc, workers)?)?;
+    let mut src = MemSource::new(input.to_vec(alloc)?, 4096, Vec::new(alloc));
+    let mut out = MemSink::with_room(alloc, 8192, 4096, Vec::new(alloc))?;
+    let mut err = MemSink::with_room(alloc, 80, 80, Vec::new(alloc))?;
+    let status = layout_shared(rt, alloc, &words, &mut src, &mut out, &mut err, &OpenGate);
+    match status {
+        0 => Ok(out),
+        _ => Err("no document")?,
+    }
+}
+
+// What a run writes of a page: on one thread, and the same by 1, 2 and 7 workers.
+fn laid_out<R: Threads + Wait + Sync>(
+    rt: &R,
+    alloc: Global,
+    input: Vec<u8>,
+) -> Result<MemSink, Fail> {
+    let out = laid_out_alone(alloc, &input)?;
+    for workers in ["1", "2", "7"] {
+        let shared = laid_out_shared(rt, alloc, workers, &input)?;
+        if shared.as_slice() != out.as_slice() {
+            Err("the workers wrote another document")?;
+        }
+    }
+    Ok(out)
 }
 
 const FRONT: &[u8] = b"\
@@ -188,7 +227,7 @@ fn pages_of_blocks_give_their_documents(rt: HostRuntime) -> Result<(), Fail> {
         ),
     ];
     for (name, width, height, blocks, rest) in cases {
-        let out = laid_out(rt.alloc(), page(rt.alloc(), width, height, blocks)?)?;
+        let out = laid_out(&rt, rt.alloc(), page(rt.alloc(), width, height, blocks)?)?;
         let Some(found) = out.as_slice().strip_prefix(FRONT) else {
             return Err("another front")?;
         };
@@ -230,7 +269,7 @@ fn documents_have_slanted_lines_and_a_cycle_of_four(rt: HostRuntime) -> Result<(
         ),
     ];
     for (blocks, line) in cases {
-        let out = laid_out(rt.alloc(), page(rt.alloc(), 1010, 70, blocks)?)?;
+        let out = laid_out(&rt, rt.alloc(), page(rt.alloc(), 1010, 70, blocks)?)?;
         assert!(rt; out.as_slice().windows(line.len()).any(|part| part == line));
     }
     Ok(())

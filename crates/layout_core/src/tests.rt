@@ -1,10 +1,13 @@
 //! Runs over memory: the worked pages and faults, and devices that fail at each of their calls.
 ghost use Rattle.std.specs.Prelude.{◌<◌};
 
-use crate::layout_alone;
+use crate::{layout_alone, layout_shared};
 use layout_outside::{MemSink, MemSource};
+use lease_workers::OpenGate;
 use std::alloc::Global;
+use std::sync::Wait;
 use std::test::Fail;
+use std::thread::Threads;
 
 // How a run ended, and what it wrote.
 #[derive(Drop)]
@@ -15,8 +18,79 @@ struct Outcome {
     reads: u64,
 }
 
-// A run over devices that move at most a piece in a call, and fail at the calls with these numbers.
-fn run(
+// The devices of a run: they move at most a piece in a call, and fail at the calls with these numbers.
+#[derive(Drop)]
+struct Devices {
+    src: MemSource,
+    out: MemSink,
+    err: MemSink,
+}
+
+impl Devices {
+    fn new(
+        alloc: Global,
+        input: &[u8],
+        piece: usize,
+        read_fails: &[u64],
+        write_fails: &[u64],
+    ) -> Result<Devices, Fail>
+        requires { 0 < piece }
+    {
+        Ok(Devices {
+            src: MemSource::new(input.to_vec(alloc)?, piece, read_fails.to_vec(alloc)?),
+            out: MemSink::with_room(alloc, 4096, piece, write_fails.to_vec(alloc)?)?,
+            err: MemSink::with_room(alloc, 80, piece, Vec::new(alloc))?,
+        })
+    }
+
+    fn run_alone(self, alloc: Global, words: &[String]) -> Outcome {
+        let Devices {
+            mut src,
+            mut out,
+            mut err,
+        } = self;
+        let status = layout_alone(alloc, words, &mut src, &mut out, &mut err);
+        Outcome::new(status, src.calls, out, err)
+    }
+
+    fn run_shared<R: Threads + Wait + Sync>(
+        self,
+        rt: &R,
+        alloc: Global,
+        words: &[String],
+    ) -> Outcome {
+        let Devices {
+            mut src,
+            mut out,
+            mut err,
+        } = self;
+        let status = layout_shared(rt, alloc, words, &mut src, &mut out, &mut err, &OpenGate);
+        Outcome::new(status, src.calls, out, err)
+    }
+}
+
+impl Outcome {
+    fn new(status: u8, reads: u64, out: MemSink, err: MemSink) -> Outcome {
+        Outcome {
+            status,
+            out,
+            err,
+            reads,
+        }
+    }
+
+    // Whether another run ended in the same way, and wrote the same.
+    fn is_as(&self, other: &Outcome) -> bool {
+        self.status == other.status
+            && self.reads == other.reads
+            && self.out.as_slice() == other.out.as_slice()
+            && self.err.as_slice() == other.err.as_slice()
+    }
+}
+
+// A run of each program over such devices, which end in the same way.
+fn run<R: Threads + Wait + Sync>(
+    rt: &R,
     alloc: Global,
     words: &[String],
     input: &[u8],
@@ -26,17 +100,15 @@ fn run(
 ) -> Result<Outcome, Fail>
     requires { 0 < piece }
 {
-    let mut src = MemSource::new(input.to_vec(alloc)?, piece, read_fails.to_vec(alloc)?);
-    let mut out = MemSink::with_room(alloc, 4096, piece, write_fails.to_vec(alloc)?)?;
-    let mut err = MemSink::with_room(alloc, 64, piece, Vec::new(alloc))?;
-    let status = layout_alone(alloc, words, &mut src, &mut out, &mut err);
-    let reads = src.calls;
-    Ok(Outcome {
-        status,
-        out,
-        err,
-        reads,
-    })
+    let devices = Devices::new(alloc, input, piece, read_fails, write_fails)?;
+    let alone = devices.run_alone(alloc, words);
+    let devices = Devices::new(alloc, input, piece, read_fails, write_fails)?;
+    let shared = devices.run_shared(rt, alloc, words);
+    if alone.is_as(&shared) {
+        Ok(alone)
+    } else {
+        Err("the programs differ")?
+    }
 }
 
 const CORNER_BLOCK: &[u8] =
@@ -109,7 +181,7 @@ fn pages_give_their_documents_in_any_pieces(rt: HostRuntime) -> Result<(), Fail>
     ];
     for piece in [1, 16, 4096] {
         for (input, document) in pages {
-            let outcome = run(rt.alloc(), &[], input, piece, &[], &[])?;
+            let outcome = run(&rt, rt.alloc(), &[], input, piece, &[], &[])?;
             assert_eq!(rt; outcome.status, 0, "piece {piece}");
             assert_eq!(rt; outcome.out.as_slice(), document, "piece {piece}");
             assert_eq!(rt; outcome.err.calls, 0, "piece {piece}");
@@ -145,7 +217,7 @@ fn faults_of_the_input_have_their_statuses_and_lines(rt: HostRuntime) -> Result<
     ];
     for piece in [1, 16] {
         for (input, status, line) in faults {
-            let outcome = run(rt.alloc(), &[], input, piece, &[], &[])?;
+            let outcome = run(&rt, rt.alloc(), &[], input, piece, &[], &[])?;
             assert_eq!(rt; outcome.status, status, "{input:?}");
             assert_eq!(rt; outcome.err.as_slice(), line, "{input:?}");
             assert_eq!(rt; outcome.out.calls, 0, "{input:?}");
@@ -159,7 +231,7 @@ fn a_header_over_65536_bytes_is_a_limit(rt: HostRuntime) -> Result<(), Fail> {
     let mut input = b"P4".to_vec(rt.alloc())?;
     input.resize(65_536, b' ')?;
     input.extend_from_slice(b"8 1\n")?;
-    let outcome = run(rt.alloc(), &[], &input, 4096, &[], &[])?;
+    let outcome = run(&rt, rt.alloc(), &[], &input, 4096, &[], &[])?;
     assert_eq!(rt; outcome.status, 4);
     assert_eq!(rt;
         outcome.err.as_slice(),
@@ -187,7 +259,7 @@ fn blocks(alloc: Global) -> Result<Vec<u8>, Fail> {
 
 #[test]
 fn more_than_60000_components_are_refused(rt: HostRuntime) -> Result<(), Fail> {
-    let outcome = run(rt.alloc(), &[], &blocks(rt.alloc())?, 4096, &[], &[])?;
+    let outcome = run(&rt, rt.alloc(), &[], &blocks(rt.alloc())?, 4096, &[], &[])?;
     assert_eq!(rt; outcome.status, 4);
     assert_eq!(rt;
         outcome.err.as_slice(),
@@ -206,7 +278,7 @@ fn no_read_is_made_once_a_fault_is_decided(rt: HostRuntime) -> Result<(), Fail> 
         (b"P4\n8 1\n\0", 9),
     ];
     for (input, reads) in cases {
-        let outcome = run(rt.alloc(), &[], input, 1, &[], &[])?;
+        let outcome = run(&rt, rt.alloc(), &[], input, 1, &[], &[])?;
         assert_eq!(rt; outcome.reads, reads, "{input:?}");
     }
     Ok(())
@@ -222,35 +294,52 @@ fn strings(alloc: Global, words: &[&str]) -> Result<Vec<String>, Fail> {
 
 const ONE_WHITE_PIXEL: &[u8] = b"P1\n1 1\n0\n";
 
+// Words that have a plan in neither program.
+const REFUSED: [&[&str]; 12] = [
+    &["--rects", "257"],
+    &["--rects", "1", "--rects=2"],
+    &["--rects", "+3"],
+    &["--image", "a\"b"],
+    &["--image", "-"],
+    &["--image="],
+    &["--"],
+    &["--help"],
+    &["page.pbm"],
+    &[""],
+    &["--image", "a", "--make", "1"],
+    &["--make", "18446744073709551616"],
+];
+
+const USAGE_ALONE: &[u8] = b"usage: layout1 [--rects N] [--image NAME] [--make SEED]\n";
+
+const USAGE_SHARED: &[u8] =
+    b"usage: layout [--workers N] [--rects N] [--image NAME] [--make SEED]\n";
+
+// Whether a run ended for its words: nothing was read or written but the line.
+fn is_for_words(outcome: &Outcome, line: &[u8]) -> bool {
+    outcome.status == 2
+        && outcome.reads == 0
+        && outcome.out.calls == 0
+        && outcome.err.as_slice() == line
+}
+
 #[test]
-fn words_without_a_plan_are_refused_and_nothing_is_read(rt: HostRuntime) -> Result<(), Fail> {
-    let cases: [&[&str]; 13] = [
-        &["--rects", "257"],
-        &["--rects", "1", "--rects=2"],
-        &["--rects", "+3"],
-        &["--image", "a\"b"],
-        &["--image", "-"],
-        &["--image="],
-        &["--"],
-        &["--help"],
-        &["page.pbm"],
-        &[""],
-        &["--workers", "2"],
-        &["--image", "a", "--make", "1"],
-        &["--make", "18446744073709551616"],
-    ];
-    for words in cases {
-        let strings = strings(rt.alloc(), words)?;
-        let outcome = run(rt.alloc(), &strings, ONE_WHITE_PIXEL, 16, &[], &[])?;
-        assert_eq!(rt; outcome.status, 2, "{words:?}");
-        assert_eq!(rt;
-            outcome.err.as_slice(),
-            b"usage: layout1 [--rects N] [--image NAME]\n".as_slice(),
-            "{words:?}"
-        );
-        assert_eq!(rt; outcome.reads, 0, "{words:?}");
-        assert_eq!(rt; outcome.out.calls, 0, "{words:?}");
+fn words_refused(rt: HostRuntime) -> Result<(), Fail> {
+    let alloc = rt.alloc();
+    for words in REFUSED {
+        let strings = strings(alloc, words)?;
+        let alone = Devices::new(alloc, ONE_WHITE_PIXEL, 16, &[], &[])?.run_alone(alloc, &strings);
+        assert!(rt; is_for_words(&alone, USAGE_ALONE), "{words:?}");
+        let devices = Devices::new(alloc, ONE_WHITE_PIXEL, 16, &[], &[])?;
+        let shared = devices.run_shared(&rt, alloc, &strings);
+        assert!(rt; is_for_words(&shared, USAGE_SHARED), "{words:?}");
     }
+    let workers = strings(alloc, &["--workers", "2"])?;
+    let alone = Devices::new(alloc, ONE_WHITE_PIXEL, 16, &[], &[])?.run_alone(alloc, &workers);
+    assert!(rt; is_for_words(&alone, USAGE_ALONE));
+    let none = strings(alloc, &["--workers", "0"])?;
+    let devices = Devices::new(alloc, ONE_WHITE_PIXEL, 16, &[], &[])?;
+    assert!(rt; is_for_words(&devices.run_shared(&rt, alloc, &none), USAGE_SHARED));
     Ok(())
 }
 
@@ -272,7 +361,7 @@ fn words_with_a_plan_are_followed(rt: HostRuntime) -> Result<(), Fail> {
     ];
     for (words, title) in cases {
         let strings = strings(rt.alloc(), words)?;
-        let outcome = run(rt.alloc(), &strings, ONE_WHITE_PIXEL, 16, &[], &[])?;
+        let outcome = run(&rt, rt.alloc(), &strings, ONE_WHITE_PIXEL, 16, &[], &[])?;
         assert_eq!(rt; outcome.status, 0, "{words:?}");
         let text = outcome.out.as_slice();
         assert!(rt;
@@ -287,7 +376,7 @@ fn words_with_a_plan_are_followed(rt: HostRuntime) -> Result<(), Fail> {
 fn a_source_that_fails_at_each_call_in_turn(rt: HostRuntime) -> Result<(), Fail> {
     for (piece, calls) in [(1, 42), (16, 4)] {
         for call in 0..calls {
-            let outcome = run(rt.alloc(), &[], CORNER_BLOCK, piece, &[call], &[])?;
+            let outcome = run(&rt, rt.alloc(), &[], CORNER_BLOCK, piece, &[call], &[])?;
             assert_eq!(rt; outcome.status, 5, "piece {piece}, call {call}");
             assert_eq!(rt;
                 outcome.err.as_slice(),
@@ -296,7 +385,7 @@ fn a_source_that_fails_at_each_call_in_turn(rt: HostRuntime) -> Result<(), Fail>
             );
             assert_eq!(rt; outcome.out.calls, 0, "piece {piece}, call {call}");
         }
-        let outcome = run(rt.alloc(), &[], CORNER_BLOCK, piece, &[calls], &[])?;
+        let outcome = run(&rt, rt.alloc(), &[], CORNER_BLOCK, piece, &[calls], &[])?;
         assert_eq!(rt; outcome.status, 0, "piece {piece}");
     }
     Ok(())
@@ -304,9 +393,9 @@ fn a_source_that_fails_at_each_call_in_turn(rt: HostRuntime) -> Result<(), Fail>
 
 #[test]
 fn a_sink_that_fails_at_each_call_in_turn(rt: HostRuntime) -> Result<(), Fail> {
-    for (piece, calls) in [(1, 443), (16, 28)] {
+    for (piece, calls) in [(16, 28), (64, 7)] {
         for call in 0..calls {
-            let outcome = run(rt.alloc(), &[], CORNER_BLOCK, piece, &[], &[call])?;
+            let outcome = run(&rt, rt.alloc(), &[], CORNER_BLOCK, piece, &[], &[call])?;
             assert_eq!(rt; outcome.status, 6, "piece {piece}, call {call}");
             assert_eq!(rt;
                 outcome.err.as_slice(),
@@ -323,7 +412,7 @@ fn a_sink_that_fails_at_each_call_in_turn(rt: HostRuntime) -> Result<(), Fail> {
                 "piece {piece}, call {call}"
             );
         }
-        let outcome = run(rt.alloc(), &[], CORNER_BLOCK, piece, &[], &[calls])?;
+        let outcome = run(&rt, rt.alloc(), &[], CORNER_BLOCK, piece, &[], &[calls])?;
         assert_eq!(rt; outcome.status, 0, "piece {piece}");
     }
     Ok(())
