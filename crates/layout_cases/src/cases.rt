@@ -2,6 +2,7 @@
 mod meeting;
 mod pages;
 mod passes;
+mod runs;
 mod shared;
 mod word;
 mod workers;

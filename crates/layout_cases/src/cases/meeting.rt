@@ -25,7 +25,7 @@ impl Meeting {
     }
 
     /// Sets the first flag and waits for the second, or the other way round.
-    fn come(&self, is_first: bool) {
+    pub(crate) fn come(&self, is_first: bool) {
         let (mine, other) = if is_first {
             (&self.first, &self.second)
         } else {
