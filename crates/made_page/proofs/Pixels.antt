@@ -30,9 +30,6 @@ pub put_black : (row : List ℕ) (x i k : ℕ) → i ≡ x / 8 → i < length ro
     → pixel (set row i (bit_or (get_or row i 0) (1 * 2 ^ (7 - x % 8) % 256))) k ≡ cond (eqb k x) 1 (pixel row k)
 put_black row x i k place within = cases (eqb k x) refl
   where
-    byte : ℕ
-    byte = bit_or (get_or row i 0) (1 * 2 ^ (7 - x % 8) % 256)
-
     cases_eq : (a b : ℕ) → (a ≡ b) ⊎ (a ≢ b)
     cases_eq a b = by_test (eqb a b) refl
       where
@@ -120,17 +117,14 @@ pub one_block : (k y : ℕ) (blocks : List Block) (i : ℕ) (d : Block) (was now
 one_block k y blocks i d was now below old new =
     new
     ∙ ap (λ (n : ℕ). cond (has_place k y (get_or blocks i d)) 1 n) old
-    ∙ either (has_place k y (get_or blocks i d)) (list_any (has_place k y) (take i blocks))
+    ∙ either (has_place k y (get_or blocks i d)) (list_any (has_place k y) (take i blocks)) 1 0
     ∙ ap (λ (b : Bool). cond b 1 0) (sym (list_any_more (has_place k y) blocks i d below))
   where
-    zero_of : ℕ
-    zero_of = 0
-
-    either : (a b : Bool) → cond a 1 (cond b 1 0) ≡ cond (b || a) 1 zero_of
-    either true true = refl
-    either true false = refl
-    either false true = refl
-    either false false = refl
+    either : (a b : Bool) (black white : ℕ) → cond a black (cond b black white) ≡ cond (b || a) black white
+    either true true black white = refl
+    either true false black white = refl
+    either false true black white = refl
+    either false false black white = refl
 
 -- all blocks were painted
 pub all_blocks : (k y : ℕ) (blocks : List Block) (i now : ℕ) → length blocks ≤ i → now ≡ cond (list_any (has_place k y) (take i blocks)) 1 0 → now ≡ cond (list_any (has_place k y) blocks) 1 0

@@ -2,7 +2,7 @@
 use Rattle.std.proofs.Common.{◌≡◌, ℕ, suc, ◌+◌, Bool, cond, ◌&&◌, List, length, inl, inr, ap, sym, subst, ◌∙◌, arith}
 use Rattle.std.specs.List.{list_any}
 use Rattle.std.proofs.lemmas.Bool.{cases_lt, lt-ltb, le-ltb}
-use Rattle.page_runs.specs.Page.{Page, pixel, IsRowOf, IsPackedRow}
+use Rattle.page_runs.specs.Page.{Page, pixel, IsRowOf}
 use Rattle.page_runs.specs.Given.{AfterRows}
 use Rattle.page_runs.specs.Packed.{Packed, IsWhole, Holds}
 use Rattle.page_runs.specs.Rows.{Begun, Given, GivenPageIsHeld}
@@ -10,9 +10,7 @@ use Rattle.made_page.specs.declared.block.Block.{Block}
 use Rattle.made_page.specs.Made.{has_place, page_of_blocks}
 use Rattle.made_page.proofs.Pixels.{row_end}
 
-pub packed_row : (bits : List ℕ) → length bits ≡ 310 → IsPackedRow 2480 bits
-packed_row bits len = record { len = len; padding = λ x past. row_end bits x (omega (arith, len, past)) }
-
+-- a painted row is that of the page
 pub row_of_page : (blocks : List Block) (y : ℕ) (bits : List ℕ) → length bits ≡ 310
     → ((k : ℕ) → pixel bits k ≡ cond (list_any (has_place k y) blocks) 1 0) → IsRowOf (page_of_blocks blocks) y bits
 row_of_page blocks y bits len painted = record {
