@@ -86,14 +86,7 @@ fn covers_by_hand(rt: HostRuntime) -> Result<(), Fail> {
         let page = rect_of(&rt, case.page);
         let boxes = rects_of(&rt, rt.alloc(), case.boxes)?;
         assert!(rt; 1 <= case.least && case.count <= 256 && boxes.len() <= 60_000);
-        let found = cover(
-            rt.alloc(),
-            page,
-            &boxes,
-            case.least,
-            case.count,
-            &mut Alone,
-        )?;
+        let found = cover(rt.alloc(), page, &boxes, case.least, case.count, &mut Alone)?;
         let expected = rects_of(&rt, rt.alloc(), case.rects)?;
         assert_eq!(rt; found.as_slice(), expected.as_slice());
     }
