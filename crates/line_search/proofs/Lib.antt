@@ -14,3 +14,4 @@ pub mod Rising
 pub mod Scored
 pub mod Margins
 pub mod Gathered
+pub mod Few

@@ -24,6 +24,9 @@ pub(crate) struct Window {
     pub(crate) key: u64,
 }
 
+/// Fewer boxes weigh less than a line.
+const LEAST_BOXES: usize = 3;
+
 /// The greatest key of the lines among the boxes alone whose feet stand in the rows.
 fn best_within<F: Searcher<Grid>>(
     alloc: Global,
@@ -37,6 +40,9 @@ fn best_within<F: Searcher<Grid>>(
     ensures greatest { IfOk result (λ key. IsGreatestKey (IsAdmitted (numbers_of (within rows grid.old))) key) }
 {
     let near = standing(alloc, rows, grid.boxes(), grid.alive())?;
+    if near.len() < LEAST_BOXES {
+        return Ok(0);
+    }
     let alive = grid.replace_alive(near);
     let best = searcher.best(alloc, grid);
     let _ = grid.replace_alive(alive);

@@ -2,6 +2,8 @@ use Rattle.std.proofs.Common.{arith, ◌<◌, ℕ, not, ap, refl, length, slice_
 use Rattle.std.proofs.lemmas.List.Elements.{All-filter}
 use Rattle.std.proofs.lemmas.List.Filters.{length-filter_both}
 use Rattle.line_search.specs.Windows.{stands_in}
+use Rattle.line_search.specs.Windows.{within}
+use Rattle.line_search.proofs.Few.{none_of_few}
 use Rattle.line_search.proofs.windows.best_within.Goals as goal
 
 pub replace_alive-alive-requires-clause-few : goal.replace_alive-alive-requires-clause-few
@@ -12,3 +14,7 @@ replace_alive-alive-requires-clause-few g c =
 pub replace_alive-alive-requires-clause-positions : goal.replace_alive-alive-requires-clause-positions
 replace_alive-alive-requires-clause-positions g c =
     rw c.in_ok-near.ensures.value (All-filter (λ (position : ℕ). stands_in c.args.rows (slice_get c.boxes.result.now position)) (λ (position : ℕ). position < length c.args.grid.now.boxes) c.alive.result.now c.alive.ensures.positions)
+
+pub returns-then-len-lt-LEAST_BOXES-clause-greatest : goal.returns-then-len-lt-LEAST_BOXES-clause-greatest
+returns-then-len-lt-LEAST_BOXES-clause-greatest g c =
+    none_of_few (within c.args.rows c.args.grid.now) (grind (arith, c.if-len-lt-LEAST_BOXES.true, c.len.ensures.value, c.in_ok-near.ensures.value, c.boxes.ensures, c.alive.ensures.value))
