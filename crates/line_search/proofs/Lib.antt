@@ -15,3 +15,4 @@ pub mod Scored
 pub mod Margins
 pub mod Gathered
 pub mod Few
+pub mod Unique

@@ -68,3 +68,7 @@ characters_of kept = filter (λ position. is_char_sized kept.median (slice_get k
 -- the lines of a page, the best first
 abbrev pub AreLinesOf : Kept → List Rect → ℕ → List Line → Type 0
 AreLinesOf kept gutters height lines = IsLineList kept.boxes gutters height (characters_of kept) lines
+
+-- a page of at most 8192 rows has one list of lines
+abbrev pub LinesAreUnique : Type 0
+LinesAreUnique = (kept : Kept) (gutters : List Rect) (height : ℕ) (xs ys : List Line) → height ≤ 8192 → AreLinesOf kept gutters height xs → AreLinesOf kept gutters height ys → xs ≡ ys

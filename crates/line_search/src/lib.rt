@@ -6,6 +6,7 @@ mod bound;
 mod characters;
 mod greedy;
 mod grid;
+mod law;
 mod line;
 mod members;
 mod near;
@@ -18,6 +19,7 @@ mod windows;
 
 pub use greedy::lines;
 pub use grid::Grid;
+pub use law::lines_are_unique;
 pub use layout_geom::OutOfMemory;
 pub use line::{Line, Lines};
 pub use span::Span;
