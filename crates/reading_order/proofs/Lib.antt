@@ -16,3 +16,5 @@ pub mod Finding
 pub mod Sorting
 pub mod Marking
 pub mod Words
+pub mod UniqueOrder
+pub mod UniqueAreas

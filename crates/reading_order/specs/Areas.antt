@@ -46,3 +46,7 @@ AreAreasFrom lines listing reach from (area ∷ areas) = IsArea lines listing re
 -- twice that height below its end.
 abbrev pub AreAreasOf : List Rect → List ℕ → ℕ → List Area → Type 0
 AreAreasOf lines listing median areas = AreAreasFrom lines listing (2 * median) 0 areas
+
+-- A listing of lines falls into one list of areas at most.
+abbrev pub AreasAreUnique : Type 0
+AreasAreUnique = (lines : List Rect) (listing : List ℕ) (median : ℕ) (xs ys : List Area) → AreAreasOf lines listing median xs → AreAreasOf lines listing median ys → xs ≡ ys

@@ -5,6 +5,7 @@ mod areas;
 mod cycle;
 mod ends;
 mod front;
+mod law;
 mod order;
 mod reach;
 mod rows;
@@ -16,5 +17,6 @@ mod table;
 mod tests;
 
 pub use areas::areas_of;
+pub use law::order_and_areas_are_unique;
 pub use layout_geom::OutOfMemory;
 pub use order::order_of;
