@@ -4,3 +4,5 @@ pub mod Rising
 pub mod Inside
 pub mod Wholes
 pub mod Planning
+pub mod Stable
+pub mod Unique

@@ -6,3 +6,4 @@ pub mod Run
 pub mod Refused
 pub mod Line
 pub mod Status
+pub mod Unique

@@ -1,0 +1,185 @@
+-- A page has one layout, and a run one output.
+use Rattle.std.proofs.Common.{◌≡◌, ◌∙◌, ℕ, ◌+◌, ◌*◌, ◌≤◌, max, List, length, map, Option, None, Some, refl, sym, ap, subst, arith, ⊎_elim, inl, inr}
+use Rattle.std.specs.Ordering.{is_lt, nat_cmp}
+use Rattle.std.specs.Cmp.{IsStrictWeakOrder, IsTotalOrder, then_total, on_total}
+use Rattle.std.proofs.lemmas.Cmp.{nat_cmp_total}
+use Rattle.std.proofs.lemmas.List.MinMax.{ranks_by}
+use Rattle.std.specs.Io.KnownBytes.{append_known}
+use Rattle.pbm_reader.specs.Page.{Page}
+use Rattle.layout_geom.specs.declared.rect.Rect.{Rect}
+use Rattle.layout_geom.specs.declared.area.Area.{Area}
+use Rattle.layout_geom.specs.declared.order.Order.{Order}
+use Rattle.layout_geom.specs.Rectangles.{HasSides, height_of}
+use Rattle.layout_geom.specs.SameSides.{same_sides}
+use Rattle.components.specs.declared.kept.Kept.{Kept}
+use Rattle.components.specs.Kept.{IsLowerMedian, KeptIsUnique}
+use Rattle.whitespace_cover.specs.Cover.{IsCover, CoverIsUnique}
+use Rattle.gutters.specs.Gutters.{gutters_of}
+use Rattle.line_search.specs.declared.line.Line.{Line}
+use Rattle.line_search.specs.Lines.{AreLinesOf, LinesAreUnique}
+use Rattle.reading_order.specs.Answers.{IsReadingOrder, OrderIsUnique}
+use Rattle.reading_order.specs.Areas.{AreAreasOf, AreasAreUnique}
+use Rattle.hocr_writer.specs.declared.layout.Layout.{Layout}
+use Rattle.hocr_writer.specs.declared.layout.Mark.{Mark}
+use Rattle.hocr_writer.specs.Listing.{listing, listing_of}
+use Rattle.hocr_writer.specs.Document.{document_of}
+use Rattle.hocr_writer.specs.Summary.{summary_of}
+use Rattle.made_page.specs.Made.{made_page}
+use Rattle.command_words.specs.declared.plan.Plan.{Plan}
+use Rattle.command_words.specs.declared.plan.Program.{Program}
+use Rattle.command_words.specs.Plans.{HasPlan}
+use Rattle.layout_core.specs.Numbering.{mark_of, box_of, compare_marks, IsNumbered}
+use Rattle.layout_core.specs.Layouts.{IsLayout}
+use Rattle.layout_core.specs.Run.{WritesDocument, WritesSummary, WritesOutput}
+use Rattle.layout_core.specs.Unique.{AskTheSame, LayoutIsUnique, OutputIsUnique}
+use Rattle.layout_core.proofs.Stable.{one_stable_sort, one_rising}
+use Rattle.layout_core.proofs.Components.{SpellsOne, whole_is}
+use Rattle.layout_core.proofs.Planning.{OnePlan}
+
+-- ---- the parts of a layout
+
+-- what the crates below say of their answers
+pub record Laws : Type 0 where
+  pub kept : KeptIsUnique
+  pub cover : CoverIsUnique
+  pub lines : LinesAreUnique
+  pub order : OrderIsUnique
+  pub areas : AreasAreUnique
+
+one_median : (xs ys : List ℕ) (m n : ℕ) → xs ≡ ys → IsLowerMedian xs m → IsLowerMedian ys n → m ≡ n
+one_median xs ys m n same is is_too =
+    let here : IsLowerMedian ys m = rw same at is in
+    let rising : here.rising ≡ is_too.rising = one_rising ys here.rising is_too.rising here.rearranged here.rises is_too.rearranged is_too.rises in
+    here.middle ∙ rw rising (sym is_too.middle)
+
+kept_with : List Rect → ℕ → Kept
+kept_with boxes median = record { boxes = boxes; median = median }
+
+same_kept : (k l : Kept) → k.boxes ≡ l.boxes → k.median ≡ l.median → k ≡ l
+unfolding kept_with
+same_kept k l boxes medians = let same : kept_with k.boxes k.median ≡ kept_with l.boxes l.median = cc in same
+
+same_whole : (r s : Rect) (width height : ℕ) → HasSides r 0 0 width height → HasSides s 0 0 width height → r ≡ s
+same_whole r s width height is is_too =
+    same_sides r s (record { left = is.left ∙ sym is_too.left; top = is.top ∙ sym is_too.top; right = is.right ∙ sym is_too.right; bottom = is.bottom ∙ sym is_too.bottom })
+
+low_enough : (r : Rect) (width height : ℕ) → HasSides r 0 0 width height → height ≤ 8192
+low_enough r width height is = omega (arith, is.bottom, r.sides.bottom)
+
+same_cover : CoverIsUnique → (w v : Rect) (bs cs : List Rect) (least low count many : ℕ) (xs ys : List Rect) → w ≡ v → bs ≡ cs → least ≡ low → count ≡ many → IsCover w bs least count xs → IsCover v cs low many ys → xs ≡ ys
+same_cover unique w v bs cs least low count many xs ys wholes boxes leasts counts is is_too =
+    let here : IsCover v cs low many xs = rw (wholes, boxes, leasts, counts) at is in
+    unique v cs low many xs ys here is_too
+
+same_lines : LinesAreUnique → (k l : Kept) (gs hs : List Rect) (height : ℕ) (xs ys : List Line) → height ≤ 8192 → k ≡ l → gs ≡ hs → AreLinesOf k gs height xs → AreLinesOf l hs height ys → xs ≡ ys
+same_lines unique k l gs hs height xs ys low kepts gutters is is_too =
+    let here : AreLinesOf l hs height xs = subst (λ (g : List Rect). AreLinesOf l g height xs) gutters (subst (λ (j : Kept). AreLinesOf j gs height xs) kepts is) in
+    unique l hs height xs ys low here is_too
+
+marks_rank : IsStrictWeakOrder (λ (x y : Mark). is_lt (compare_marks x y))
+marks_rank =
+    ranks_by (then_total (on_total (λ (mark : Mark). mark.bbox.y0 + mark.bbox.y1) nat_cmp_total) (on_total (λ (mark : Mark). mark.bbox.x0) nat_cmp_total)) (λ (mark : Mark). mark)
+
+same_marks : (xs ys : List Line) (ms ns : List Mark) → xs ≡ ys → IsNumbered xs ms → IsNumbered ys ns → ms ≡ ns
+same_marks xs ys ms ns found is is_too =
+    let here : IsNumbered ys ms = rw found at is in
+    one_stable_sort (λ (x y : Mark). is_lt (compare_marks x y)) marks_rank (map mark_of ys) ms ns here.sorted here.stable is_too.sorted is_too.stable
+
+same_order : OrderIsUnique → (ms ns : List Mark) (o p : Order) → ms ≡ ns → IsReadingOrder (map box_of ms) o → IsReadingOrder (map box_of ns) p → o ≡ p
+same_order unique ms ns o p marks is is_too =
+    unique (map box_of ns) o p (subst (λ (l : List Mark). IsReadingOrder (map box_of l) o) marks is) is_too
+
+same_areas : AreasAreUnique → (ms ns : List Mark) (o p : Order) (median middle : ℕ) (xs ys : List Area) → ms ≡ ns → o ≡ p → median ≡ middle → AreAreasOf (map box_of ms) (listing o (length ms)) median xs → AreAreasOf (map box_of ns) (listing p (length ns)) middle ys → xs ≡ ys
+same_areas unique ms ns o p median middle xs ys marks orders medians is is_too =
+    let here : AreAreasOf (map box_of ns) (listing o (length ns)) median xs = subst (λ (l : List Mark). AreAreasOf (map box_of l) (listing o (length l)) median xs) marks is in
+    let there : AreAreasOf (map box_of ns) (listing p (length ns)) median xs = subst (λ (q : Order). AreAreasOf (map box_of ns) (listing q (length ns)) median xs) orders here in
+    unique (map box_of ns) (listing p (length ns)) middle xs ys (subst (λ (m : ℕ). AreAreasOf (map box_of ns) (listing p (length ns)) m xs) medians there) is_too
+
+same_gutters : (k l : Kept) (ws vs gs hs : List Rect) → k ≡ l → ws ≡ vs → gs ≡ gutters_of k ws → hs ≡ gutters_of l vs → gs ≡ hs
+same_gutters k l ws vs gs hs kepts whites is is_too = cc (kepts, whites, is, is_too)
+
+-- ---- the layout
+
+layout_with : ℕ → ℕ → ℕ → ℕ → ℕ → ℕ → List ℕ → List Rect → List Rect → List Mark → Order → List Area → Layout
+layout_with page width height black kept median image whites gutters lines order areas =
+    record { page = page; width = width; height = height; black = black; kept = kept; median = median; image = image; whites = whites; gutters = gutters; lines = lines; order = order; areas = areas }
+
+pub one_layout : Laws → LayoutIsUnique
+unfolding layout_with
+one_layout laws p q same page l m is is_too =
+    let boxes : is.kept.boxes ≡ is_too.kept.boxes = (laws.kept page).one_list is.kept.boxes is_too.kept.boxes is.is_kept.boxes is_too.is_kept.boxes in
+    let medians : is.kept.median ≡ is_too.kept.median = one_median (map height_of is.kept.boxes) (map height_of is_too.kept.boxes) is.kept.median is_too.kept.median (ap (map height_of) boxes) is.is_kept.median is_too.is_kept.median in
+    let kepts : is.kept ≡ is_too.kept = same_kept is.kept is_too.kept boxes medians in
+    let wholes : is.whole ≡ is_too.whole = same_whole is.whole is_too.whole page.width page.height is.sides is_too.sides in
+    let whites : l.whites ≡ m.whites = same_cover laws.cover is.whole is_too.whole is.kept.boxes is_too.kept.boxes (max is.kept.median 8) (max is_too.kept.median 8) p.rects q.rects l.whites m.whites wholes boxes (ap (λ (n : ℕ). max n 8) medians) same.rects is.cover is_too.cover in
+    let gutters : l.gutters ≡ m.gutters = same_gutters is.kept is_too.kept l.whites m.whites l.gutters m.gutters kepts whites is.gutters_are is_too.gutters_are in
+    let found : is.found ≡ is_too.found = same_lines laws.lines is.kept is_too.kept l.gutters m.gutters page.height is.found is_too.found (low_enough is.whole page.width page.height is.sides) kepts gutters is.are_lines is_too.are_lines in
+    let lines : l.lines ≡ m.lines = same_marks is.found is_too.found l.lines m.lines found is.numbered is_too.numbered in
+    let order : l.order ≡ m.order = same_order laws.order l.lines m.lines l.order m.order lines is.order_is is_too.order_is in
+    let areas : l.areas ≡ m.areas = same_areas laws.areas l.lines m.lines l.order m.order is.kept.median is_too.kept.median l.areas m.areas lines order medians is.areas_are is_too.areas_are in
+    let pages : l.page ≡ m.page = is.number_is ∙ sym is_too.number_is in
+    let widths : l.width ≡ m.width = is.width_is ∙ sym is_too.width_is in
+    let heights : l.height ≡ m.height = is.height_is ∙ sym is_too.height_is in
+    let blacks : l.black ≡ m.black = is.black_is ∙ sym is_too.black_is in
+    let counts : l.kept ≡ m.kept = is.kept_is ∙ ap length boxes ∙ sym is_too.kept_is in
+    let middles : l.median ≡ m.median = is.median_is ∙ medians ∙ sym is_too.median_is in
+    let images : l.image ≡ m.image = is.image_is ∙ same.image ∙ sym is_too.image_is in
+    let both : layout_with l.page l.width l.height l.black l.kept l.median l.image l.whites l.gutters l.lines l.order l.areas ≡ layout_with m.page m.width m.height m.black m.kept m.median m.image m.whites m.gutters m.lines m.order m.areas = cc in
+    both
+
+-- ---- the output
+
+make_in : Plan → Option ℕ
+make_in plan = plan.make
+
+rects_in : Plan → ℕ
+rects_in plan = plan.rects
+
+image_in : Plan → List ℕ
+image_in plan = plan.image
+
+-- plans of the same words as plans that ask for the same
+also_same : (p q p' q' : Plan) → p' ≡ p → q' ≡ q → AskTheSame p q → AskTheSame p' q'
+unfolding make_in, rects_in, image_in
+also_same p q p' q' first second same =
+    record {
+      rects = ap rects_in first ∙ same.rects ∙ sym (ap rects_in second);
+      image = ap image_in first ∙ same.image ∙ sym (ap image_in second);
+      make = ap make_in first ∙ same.make ∙ sym (ap make_in second);
+    }
+
+module _ (laws : Laws) (one_page : SpellsOne) (one_plan : OnePlan) (first second : Program) (words others : List (List ℕ)) (p q : Plan) (has : HasPlan first words p) (has_too : HasPlan second others q) (same : AskTheSame p q) where
+  same_here : (p' q' : Plan) → HasPlan first words p' → HasPlan second others q' → AskTheSame p' q'
+  same_here p' q' is is_too = also_same p q p' q' (one_plan first words p' p is has) (one_plan second others q' q is_too has_too) same
+
+  never_both : (p' q' : Plan) (seed : ℕ) → AskTheSame p' q' → p'.make ≡ None → q'.make ≡ Some seed → ⊥
+  never_both p' q' seed asks none some = cc (asks.make, none, some)
+
+  never_so : (p' q' : Plan) (seed : ℕ) → AskTheSame p' q' → p'.make ≡ Some seed → q'.make ≡ None → ⊥
+  never_so p' q' seed asks some none = cc (asks.make, none, some)
+
+  one_seed : (p' q' : Plan) (seed other : ℕ) → AskTheSame p' q' → p'.make ≡ Some seed → q'.make ≡ Some other → seed ≡ other
+  one_seed p' q' seed other asks some some_too = cc (asks.make, some, some_too)
+
+  module _ (input : List ℕ) (left left_too out_old out_new out_too : Option (List ℕ)) where
+    both_documents : WritesDocument first words (Some input) left out_old out_new → WritesDocument second others (Some input) left_too out_old out_too → out_new ≡ out_too
+    both_documents w v =
+        let asks = same_here w.plan v.plan w.planned v.planned in
+        let pages : w.page ≡ v.page = one_page input w.page v.page (whole_is (Some input) left input w.page refl w.reads) (whole_is (Some input) left_too input v.page refl v.reads) in
+        let here : IsLayout w.plan v.page w.layout = subst (λ (page : Page). IsLayout w.plan page w.layout) pages w.is_layout in
+        let layouts : w.layout ≡ v.layout = one_layout laws w.plan v.plan asks v.page w.layout v.layout here v.is_layout in
+        w.writes ∙ ap (λ (layout : Layout). append_known out_old (document_of layout)) layouts ∙ sym v.writes
+
+    both_summaries : WritesSummary first words out_old out_new → WritesSummary second others out_old out_too → out_new ≡ out_too
+    both_summaries w v =
+        let asks = same_here w.plan v.plan w.planned v.planned in
+        let seeds : w.seed ≡ v.seed = one_seed w.plan v.plan w.seed v.seed asks w.making v.making in
+        let here : IsLayout w.plan (made_page v.seed) w.layout = subst (λ (seed : ℕ). IsLayout w.plan (made_page seed) w.layout) seeds w.is_layout in
+        let layouts : w.layout ≡ v.layout = one_layout laws w.plan v.plan asks (made_page v.seed) w.layout v.layout here v.is_layout in
+        w.writes ∙ ap (λ (layout : Layout). append_known out_old (summary_of layout)) layouts ∙ sym v.writes
+
+    pub one_output : WritesOutput first words (Some input) left out_old out_new → WritesOutput second others (Some input) left_too out_old out_too → out_new ≡ out_too
+    one_output (inl w) (inl v) = both_documents w v
+    one_output (inl w) (inr v) = absurd (never_both w.plan v.plan v.seed (same_here w.plan v.plan w.planned v.planned) w.reading v.making)
+    one_output (inr w) (inl v) = absurd (never_so w.plan v.plan w.seed (same_here w.plan v.plan w.planned v.planned) w.making v.reading)
+    one_output (inr w) (inr v) = both_summaries w v

@@ -1,0 +1,24 @@
+//! The law of the runs: what they write is one thing.
+ghost use Rattle.layout_core.specs.Unique.{LayoutIsUnique, OutputIsUnique};
+
+use command_words::words_have_one_plan;
+use components::kept_is_unique;
+use line_search::lines_are_unique;
+use pbm_reader::each_input_is_judged;
+use reading_order::order_and_areas_are_unique;
+use whitespace_cover::cover_is_unique;
+
+/// States two laws, and does nothing: a page has one layout by all plans with the same rectangles, image and seed, and two
+/// runs that end with status 0 write the same for one input where their words have such plans. So the bytes of `layout` are
+/// those of `layout1`, whatever the number of workers and their schedule.
+pub fn output_is_unique()
+    ensures one_layout { LayoutIsUnique }
+    ensures one_output { OutputIsUnique }
+{
+    each_input_is_judged();
+    words_have_one_plan();
+    kept_is_unique();
+    cover_is_unique();
+    lines_are_unique();
+    order_and_areas_are_unique();
+}
