@@ -5,3 +5,4 @@ pub mod Steps
 pub mod Covering
 pub mod Barring
 pub mod Indexing
+pub mod Unique

@@ -1,5 +1,5 @@
 -- The greedy cover of the white space of a page.
-use Rattle.std.specs.Prelude.{ℕ, ◌<◌, ◌≤◌, List, ◌++◌, length, take, slice_index_or}
+use Rattle.std.specs.Prelude.{◌≡◌, ℕ, ◌<◌, ◌≤◌, List, ◌++◌, length, take, slice_index_or}
 use Rattle.layout_geom.specs.declared.rect.Rect.{Rect}
 use Rattle.whitespace_cover.specs.Admissible.{IsFull, IsBestRect}
 
@@ -13,3 +13,7 @@ module _ (page : Rect) (boxes : List Rect) (least : ℕ) where
     pub each : EachIsBest rects
     pub few : length rects ≤ count
     pub ended : length rects < count → IsFull page (boxes ++ rects) least
+
+-- there is one cover of a page behind its boxes
+abbrev pub CoverIsUnique : Type 0
+CoverIsUnique = (page : Rect) (boxes : List Rect) (least count : ℕ) (xs ys : List Rect) → IsCover page boxes least count xs → IsCover page boxes least count ys → xs ≡ ys

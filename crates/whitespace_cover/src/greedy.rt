@@ -1,6 +1,6 @@
 //! The greedy cover of the white space of a page.
 ghost use Rattle.std.specs.Prelude.{◌≤◌, length, IfOk};
-ghost use Rattle.whitespace_cover.specs.Cover.{IsCover};
+ghost use Rattle.whitespace_cover.specs.Cover.{IsCover, CoverIsUnique};
 
 use crate::bars::bars;
 use crate::white::White;
@@ -45,3 +45,9 @@ pub fn cover<F: Searcher<White>>(
     }
     Ok(rects)
 }
+
+/// States a law, and does nothing: there is one cover of a page behind these boxes, so that `cover` has
+/// one answer.
+pub fn cover_is_unique()
+    ensures one_cover { CoverIsUnique }
+{}

@@ -11,6 +11,6 @@ mod region;
 mod tests;
 mod white;
 
-pub use greedy::cover;
+pub use greedy::{cover, cover_is_unique};
 pub use layout_geom::OutOfMemory;
 pub use white::White;

@@ -1,7 +1,7 @@
 //! Greedy covers that were worked out by hand.
 use super::plain::{Sides, chance_box, next_number};
 use super::{rect_of, rects_of};
-use crate::{White, cover};
+use crate::{White, cover, cover_is_unique};
 use box_search::{Alone, Searcher};
 use layout_geom::{OutOfMemory, Rect, Rects};
 use std::alloc::Global;
@@ -90,6 +90,7 @@ fn covers_by_hand(rt: HostRuntime) -> Result<(), Fail> {
         let expected = rects_of(&rt, rt.alloc(), case.rects)?;
         assert_eq!(rt; found.as_slice(), expected.as_slice());
     }
+    cover_is_unique();
     Ok(())
 }
 
