@@ -1,5 +1,5 @@
 -- A list has one stable sort, and numbers have one rising rearrangement.
-use Rattle.std.proofs.Common.{◌≡◌, ℕ, ◌+◌, ◌<◌, ◌≤◌, Bool, true, false, cond, not, ◌&&◌, List, [], ◌∷◌, length, get_or, ltb, replicate, suc, arith, refl, sym, ◌∙◌, ap, subst}
+use Rattle.std.proofs.Common.{◌≡◌, ℕ, ◌+◌, ◌≤◌, Bool, true, false, cond, List, [], ◌∷◌, get_or, ltb, replicate, suc, arith, refl, sym, ◌∙◌, ap, subst}
 use Rattle.std.specs.List.{filter, sum_by}
 use Rattle.std.specs.Cmp.{IsStrictWeakOrder}
 use Rattle.std.specs.List.Sorted.{IsSortedBy, IsStableBy, IsPermutation, IsNonDecreasing, ties}
@@ -7,7 +7,7 @@ use Rattle.std.proofs.lemmas.List.Sums.{sum_by-cons}
 use Rattle.std.proofs.lemmas.List.Sorted.{sum_by-IsPermutation}
 use Rattle.std.proofs.lemmas.List.MinMax.{IsStrictWeakOrder-by_number}
 use Rattle.std.proofs.lemmas.Bool.Decides.{nat_tests}
-use Rattle.std.proofs.lemmas.Grind.{get_or_tail, get_or_head}
+use Rattle.std.proofs.lemmas.Grind.{get_or_tail}
 
 not_cons : {X : Type 0} (x : X) (xs : List X) → (x ∷ xs) ≡ [] → ⊥
 not_cons x xs e = cc
@@ -126,4 +126,4 @@ pub one_rising : (xs ys zs : List ℕ) → IsPermutation xs ys → IsNonDecreasi
 one_rising xs ys zs moved up moved_too up_too =
     one_list (λ (m n : ℕ). ltb m n) (IsStrictWeakOrder-by_number (λ (m : ℕ). m)) ys zs (rises ys up) (rises zs up_too)
     (λ x. let count : ℕ → ℕ = λ y. one_if (ties (λ (m n : ℕ). ltb m n) x y) in
-        copies x ys ∙ ap (λ (k : ℕ). replicate k x) (sum_by-IsPermutation count xs ys moved ∙ sym (sum_by-IsPermutation count xs zs moved_too)) ∙ sym (copies x zs))
+    copies x ys ∙ ap (λ (k : ℕ). replicate k x) (sum_by-IsPermutation count xs ys moved ∙ sym (sum_by-IsPermutation count xs zs moved_too)) ∙ sym (copies x zs))

@@ -1,7 +1,7 @@
 -- A page has one layout, and a run one output.
-use Rattle.std.proofs.Common.{◌≡◌, ◌∙◌, ℕ, ◌+◌, ◌*◌, ◌≤◌, max, List, length, map, Option, None, Some, refl, sym, ap, subst, arith, ⊎_elim, inl, inr}
-use Rattle.std.specs.Ordering.{is_lt, nat_cmp}
-use Rattle.std.specs.Cmp.{IsStrictWeakOrder, IsTotalOrder, then_total, on_total}
+use Rattle.std.proofs.Common.{◌≡◌, ◌∙◌, ℕ, ◌+◌, ◌≤◌, max, List, length, map, Option, None, Some, refl, sym, ap, subst, arith, inl, inr}
+use Rattle.std.specs.Ordering.{is_lt}
+use Rattle.std.specs.Cmp.{IsStrictWeakOrder, then_total, on_total}
 use Rattle.std.proofs.lemmas.Cmp.{nat_cmp_total}
 use Rattle.std.proofs.lemmas.List.MinMax.{ranks_by}
 use Rattle.std.specs.Io.KnownBytes.{append_known}
@@ -21,7 +21,7 @@ use Rattle.reading_order.specs.Answers.{IsReadingOrder, OrderIsUnique}
 use Rattle.reading_order.specs.Areas.{AreAreasOf, AreasAreUnique}
 use Rattle.hocr_writer.specs.declared.layout.Layout.{Layout}
 use Rattle.hocr_writer.specs.declared.layout.Mark.{Mark}
-use Rattle.hocr_writer.specs.Listing.{listing, listing_of}
+use Rattle.hocr_writer.specs.Listing.{listing}
 use Rattle.hocr_writer.specs.Document.{document_of}
 use Rattle.hocr_writer.specs.Summary.{summary_of}
 use Rattle.made_page.specs.Made.{made_page}
@@ -31,7 +31,7 @@ use Rattle.command_words.specs.Plans.{HasPlan}
 use Rattle.layout_core.specs.Numbering.{mark_of, box_of, compare_marks, IsNumbered}
 use Rattle.layout_core.specs.Layouts.{IsLayout}
 use Rattle.layout_core.specs.Run.{WritesDocument, WritesSummary, WritesOutput}
-use Rattle.layout_core.specs.Unique.{AskTheSame, LayoutIsUnique, OutputIsUnique}
+use Rattle.layout_core.specs.Unique.{AskTheSame, LayoutIsUnique}
 use Rattle.layout_core.proofs.Stable.{one_stable_sort, one_rising}
 use Rattle.layout_core.proofs.Components.{SpellsOne, whole_is}
 use Rattle.layout_core.proofs.Planning.{OnePlan}
@@ -140,7 +140,7 @@ image_in plan = plan.image
 
 -- plans of the same words as plans that ask for the same
 also_same : (p q p' q' : Plan) → p' ≡ p → q' ≡ q → AskTheSame p q → AskTheSame p' q'
-unfolding make_in, rects_in, image_in
+unfolding make_in rects_in image_in
 also_same p q p' q' first second same =
     record {
       rects = ap rects_in first ∙ same.rects ∙ sym (ap rects_in second);

@@ -1,6 +1,6 @@
 //! Whole runs on made pages, and workers that meet in a run.
 use super::meeting::Meeting;
-use layout_core::{layout_alone, layout_shared};
+use layout_core::{layout_alone, layout_shared, output_is_unique};
 use layout_outside::{MemSink, MemSource};
 use lease_workers::{Gate, OpenGate};
 use std::alloc::Global;
@@ -115,6 +115,7 @@ fn made_page_two_rectangles(rt: HostRuntime) -> Result<(), Fail> {
     let facts = b"\nrectangles 2\ngutters 0\nlines 44\nareas 1\norder topological\n";
     let alone = run_alone(rt.alloc(), &["--make", "7", "--rects", "2"])?;
     assert!(rt; tells(&alone, facts));
+    output_is_unique();
     Ok(())
 }
 
