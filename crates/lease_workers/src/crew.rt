@@ -1,5 +1,6 @@
-//! What one worker does: it leases a node in a turn, takes its step outside the turn, and ends the lease in its next one.
-ghost use Rattle.std.specs.Prelude.{◌≡◌, ◌≤◌, ◌∷◌, [], All, IfOk};
+//! What one worker does: it leases a node in a turn, takes its step outside the turn, and in its next turn ends the lease and
+//! leases another.
+ghost use Rattle.std.specs.Prelude.{◌≡◌, ◌≤◌, ◌∷◌, [], All, IfOk, IfSome, IfNone};
 ghost use Rattle.box_search.specs.Leasing.{entry_of, above};
 ghost use Rattle.std.specs.List.Sorted.{IsPermutation};
 ghost use Rattle.frontier_turn.specs.Callers.{IsOwn};
@@ -66,28 +67,23 @@ impl<'a, 's, S: Space, R: Wait, G: Gate> Crew<'a, 's, S, R, G> {
         (take, turn.leave())
     }
 
-    /// Leases a node in a turn. Where nothing is open and others have leases it waits for news, and answers `Idle`.
+    /// Leases a node in a turn where one is open by now, and else waits for news and answers `Idle`.
     ///
-    /// It looks a second time once it has announced that it will wait, since whoever ends a lease or gives one back
-    /// tells it afterwards: either this look sees what came of it, or the wait ends.
-    fn take_or_wait(&self, turns: &mut Turns, pass: Pass<S>) -> (Take<S::Work>, Pass<S>)
+    /// It looks once it has announced that it will wait, since whoever ends a lease or gives one back tells it
+    /// afterwards: either this look sees what came of it, or the wait ends.
+    fn look_or_wait(&self, turns: &mut Turns, pass: Pass<S>) -> (Take<S::Work>, Pass<S>)
         requires own { IsOwn self.now.shared.now pass }
         requires unnamed { pass.view.rest.leases ≡ [] }
         ensures own { IsOwn self.now.shared.now result.1 }
         ensures parts { result.1.view.rest.parts ≡ pass.view.rest.parts }
         ensures named { NamesOnly (S.fits self.now.shared.now.problem) result.0 result.1.view.rest.leases }
     {
-        match self.take_lease(turns, pass) {
-            (Take::Idle, pass) => {
-                let key = self.news.prepare_wait();
-                let (take, pass) = self.take_lease(turns, pass);
-                if let Take::Idle = take {
-                    key.wait(self.rt);
-                }
-                (take, pass)
-            }
-            found => found,
+        let key = self.news.prepare_wait();
+        let (take, pass) = self.take_lease(turns, pass);
+        if let Take::Idle = take {
+            key.wait(self.rt);
         }
+        (take, pass)
     }
 
     /// Wakes as many of those that wait.
@@ -131,15 +127,16 @@ impl<'a, 's, S: Space, R: Wait, G: Gate> Crew<'a, 's, S, R, G> {
         }
     }
 
-    /// Ends a lease in a turn, or gives it back where there is no memory. Says whether it ended.
-    fn end_lease(
+    /// Ends a lease in a turn, and leases the next node in the same turn. Where there is no memory the lease goes back,
+    /// and nothing is leased. It wakes others for the nodes that it opened beyond its own.
+    fn end_and_take(
         &self,
         turns: &mut Turns,
         pass: Pass<S>,
         lease: Lease<S::Work>,
         nodes: Vec<Node<S::Work>>,
         seen: u64,
-    ) -> (bool, Pass<S>)
+    ) -> (Option<Take<S::Work>>, Pass<S>)
         requires own { IsOwn self.now.shared.now pass }
         requires named { IsPermutation pass.view.rest.leases (entry_of lease ∷ []) }
         requires fit { S.fits self.now.shared.now.problem lease.node }
@@ -148,23 +145,25 @@ impl<'a, 's, S: Space, R: Wait, G: Gate> Crew<'a, 's, S, R, G> {
         requires replaces { let p = self.now.shared.now.problem in Replaces (S.admits p) (S.lies_in p) lease.node.shape seen nodes.items }
         ensures own { IsOwn self.now.shared.now result.1 }
         ensures parts { result.1.view.rest.parts ≡ pass.view.rest.parts }
-        ensures unnamed { result.1.view.rest.leases ≡ [] }
+        ensures named { IfSome result.0 (λ take. NamesOnly (S.fits self.now.shared.now.problem) take result.1.view.rest.leases) }
+        ensures unnamed { IfNone result.0 (result.1.view.rest.leases ≡ []) }
     {
         turns.pass_gate(self.gate);
         let opened = nodes.len();
         let mut turn = self.shared.enter(self.rt, pass);
         match turn.finish(lease, nodes, seen) {
             Ok(()) => {
+                let take = turn.lease();
                 let pass = turn.leave();
-                self.wake(opened);
-                (true, pass)
+                self.wake(opened.saturating_sub(1));
+                (Some(take), pass)
             }
             Err(unfinished) => {
                 let Unfinished { lease, nodes } = unfinished;
                 turn.reopen(lease);
                 let pass = turn.leave();
                 drop(nodes);
-                (false, pass)
+                (None, pass)
             }
         }
     }
@@ -184,25 +183,54 @@ impl<'a, 's, S: Space, R: Wait, G: Gate> Crew<'a, 's, S, R, G> {
         turn.leave()
     }
 
-    /// Takes the step at a leased node, and ends the lease. Says whether it ended.
+    /// Takes the step at a leased node, ends the lease, and leases the next node. Where there is no memory the lease goes
+    /// back, and nothing is leased.
     fn work_off(
         &self,
         alloc: Global,
         turns: &mut Turns,
         mut pass: Pass<S>,
         lease: Lease<S::Work>,
-    ) -> (bool, Pass<S>)
+    ) -> (Option<Take<S::Work>>, Pass<S>)
         requires space { self.now.shared.now.problem ≡ S.problem self.now.space.now }
         requires own { IsOwn self.now.shared.now pass }
         requires named { IsPermutation pass.view.rest.leases (entry_of lease ∷ []) }
         requires fit { S.fits self.now.shared.now.problem lease.node }
         ensures own { IsOwn self.now.shared.now result.1 }
         ensures parts { result.1.view.rest.parts ≡ pass.view.rest.parts }
-        ensures unnamed { result.1.view.rest.leases ≡ [] }
+        ensures named { IfSome result.0 (λ take. NamesOnly (S.fits self.now.shared.now.problem) take result.1.view.rest.leases) }
+        ensures unnamed { IfNone result.0 (result.1.view.rest.leases ≡ []) }
     {
         match self.replace(alloc, &mut pass, &lease.node) {
-            Ok((seen, nodes)) => self.end_lease(turns, pass, lease, nodes, seen),
-            Err(OutOfMemory) => (false, self.give_up(turns, pass, lease)),
+            Ok((seen, nodes)) => self.end_and_take(turns, pass, lease, nodes, seen),
+            Err(OutOfMemory) => (None, self.give_up(turns, pass, lease)),
+        }
+    }
+
+    /// Goes on from what was found in a turn: steps at a leased node, or looks again. Answers what it found then, and
+    /// nothing where nothing is left, or where memory was refused.
+    fn go_on(
+        &self,
+        alloc: Global,
+        turns: &mut Turns,
+        take: Take<S::Work>,
+        pass: Pass<S>,
+    ) -> (Option<Take<S::Work>>, Pass<S>)
+        requires space { self.now.shared.now.problem ≡ S.problem self.now.space.now }
+        requires own { IsOwn self.now.shared.now pass }
+        requires named { NamesOnly (S.fits self.now.shared.now.problem) take pass.view.rest.leases }
+        ensures own { IsOwn self.now.shared.now result.1 }
+        ensures parts { result.1.view.rest.parts ≡ pass.view.rest.parts }
+        ensures named { IfSome result.0 (λ next. NamesOnly (S.fits self.now.shared.now.problem) next result.1.view.rest.leases) }
+        ensures unnamed { IfNone result.0 (result.1.view.rest.leases ≡ []) }
+    {
+        match take {
+            Take::Done => (None, pass),
+            Take::Idle => {
+                let (next, pass) = self.look_or_wait(turns, pass);
+                (Some(next), pass)
+            }
+            Take::Leased(lease) => self.work_off(alloc, turns, pass, lease),
         }
     }
 
@@ -217,17 +245,13 @@ impl<'a, 's, S: Space, R: Wait, G: Gate> Crew<'a, 's, S, R, G> {
         ensures unnamed { result.view.rest.leases ≡ [] }
     {
         let mut turns = Turns::of_worker(worker);
-        let mut mine = pass;
+        let (mut take, mut mine) = self.take_lease(&mut turns, pass);
         for _ in self.rt.forever() {
-            let (take, after) = self.take_or_wait(&mut turns, mine);
-            let (more, after) = match take {
-                Take::Done => (false, after),
-                Take::Idle => (true, after),
-                Take::Leased(lease) => self.work_off(alloc, &mut turns, after, lease),
-            };
+            let (next, after) = self.go_on(alloc, &mut turns, take, mine);
             mine = after;
-            if !more {
-                break;
+            match next {
+                Some(found) => take = found,
+                None => break,
             }
         }
         self.news.notify_all();

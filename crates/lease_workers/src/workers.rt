@@ -6,7 +6,7 @@ ghost use Rattle.frontier_turn.specs.Callers.{IsOwn};
 
 use crate::crew::Crew;
 use crate::gate::Gate;
-use box_search::{OutOfMemory, Space};
+use box_search::{Alone, OutOfMemory, Searcher, Space};
 use crossbeam_utils::sync::EventCount;
 use frontier_turn::{Pass, Shared};
 use std::alloc::Global;
@@ -51,10 +51,16 @@ impl<'g, R: Threads + Wait + Sync, G: Gate> Workers<'g, R, G> {
     /// The greatest admitted key, or 0 exactly where no key is admitted, or want of memory, for every schedule. Where a
     /// worker is refused memory its lease goes back, and after that the search may be asked for again. It may wait; what
     /// it promises holds if it returns.
+    ///
+    /// A single worker searches on this thread as `Alone` does, and passes no gate.
     pub fn best<S: Space>(&mut self, alloc: Global, run: &R, space: &S) -> Result<u64, OutOfMemory>
         ensures count { self.new ≡ self.old }
         ensures greatest { IfOk result (IsGreatestKey (S.admits (S.problem space.now))) }
     {
+        if self.count == 1 {
+            // One worker shares with nobody, so it searches as it would alone.
+            return Alone.best(alloc, space);
+        }
         let root = space.root(alloc)?;
         let (search, pass) = Shared::start(alloc, space, root)?;
         let news = EventCount::new();

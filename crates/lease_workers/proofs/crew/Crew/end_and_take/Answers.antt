@@ -1,8 +1,9 @@
-use Rattle.std.proofs.Common.{◌≡◌, sym, ap, ◌∙◌, subst, List, ℤ}
+use Rattle.std.proofs.Common.{◌≡◌, sym, ap, ◌∙◌, subst, List, ℤ, []}
 use Rattle.frontier_turn.specs.declared.view.View.{View}
-use Rattle.frontier_turn.specs.Holding.{Replaces}
-use Rattle.lease_workers.proofs.Working.{is_named, none_left, still_named, none_left_again}
-use Rattle.lease_workers.proofs.crew.Crew.end_lease.Goals as goal
+use Rattle.frontier_turn.specs.Holding.{leases_of, Replaces, TakesFitting}
+use Rattle.lease_workers.specs.Working.{NamesOnly}
+use Rattle.lease_workers.proofs.Working.{is_named, names_only, none_left, still_named, none_left_again}
+use Rattle.lease_workers.proofs.crew.Crew.end_and_take.Goals as goal
 
 pub finish-requires-clause-named : goal.finish-requires-clause-named
 finish-requires-clause-named g c κs within = is_named c.enter-turn.result c.args.lease c.args.pass.view.rest.leases c.enter-turn.ensures.leases c.requires.named
@@ -13,9 +14,16 @@ finish-requires-clause-replaces g c κs within =
     let same : c.enter-turn.result.view.rest.problem ≡ c.args.self.now.shared.now.problem = ap (λ (v : View). v.rest.problem) c.enter-turn.ensures.view.1 ∙ c.requires.own.1 in
     subst (λ (q : List ℤ). Replaces (S.admits q) (S.lies_in q) c.args.lease.node.shape c.args.seen c.args.nodes.items) (sym same) c.requires.replaces
 
-pub returns-in-Ok-clause-unnamed : goal.returns-in-Ok-clause-unnamed
-returns-in-Ok-clause-unnamed g c = ap (λ (v : View). v.rest.leases) c.leave-pass.ensures.view
-    ∙ none_left c.enter-turn.result c.finish.new.self c.args.lease c.args.pass.view.rest.leases c.enter-turn.ensures.leases c.requires.named c.in-Ok.ensures.names
+pub returns-in-Ok-clause-named : goal.returns-in-Ok-clause-named
+returns-in-Ok-clause-named g c =
+    let S = g.S.Space in
+    let take = c.lease-take in
+    let p = c.args.self.now.shared.now.problem in
+    let none : leases_of c.finish.new.self ≡ [] = none_left c.enter-turn.result c.finish.new.self c.args.lease c.args.pass.view.rest.leases c.enter-turn.ensures.leases c.requires.named c.in-Ok.ensures.names in
+    let same : c.finish.new.self.view.rest.problem ≡ p = ap (λ (v : View). v.rest.problem) c.finish.ensures.view ∙ ap (λ (v : View). v.rest.problem) c.enter-turn.ensures.view.1 ∙ c.requires.own.1 in
+    let fit = subst (λ (q : List ℤ). TakesFitting (S.fits q) take.result) same take.ensures.fits in
+    subst (NamesOnly (S.fits p) take.result) (sym (ap (λ (v : View). v.rest.leases) c.leave-pass.ensures.view))
+    (names_only (S.fits p) c.finish.new.self take.new.self take.result none take.ensures.names fit)
 
 pub reopen-requires-clause-named : goal.reopen-requires-clause-named
 reopen-requires-clause-named g c κs within = still_named c.enter-turn.result c.finish.new.self c.args.lease c.in-Err.unfinished.lease c.args.pass.view.rest.leases c.enter-turn.ensures.leases c.requires.named c.finish.ensures.view c.in-Err.ensures.err c.in-Err.ensures.lease_returned
