@@ -2,6 +2,7 @@
 use Rattle.std.proofs.Common.{◌≡◌, ◌≢◌, ℕ, ◌+◌, ◌-◌, ◌*◌, ◌^◌, ◌<◌, ◌≤◌, ◌/◌, ◌%◌, ◌⊎◌, arith, sym, refl, ◌∙◌, mul-pos, ⊎_elim, inl, inr, ap}
 use Rattle.std.proofs.Math.Nat.{mul-lt-mul_of_pos_right, mul-le-mul_left, mul_comm, mul-div_cancel_left, le-mul_of_pos_right}
 use Rattle.std.proofs.lemmas.Bool.{cases_lt}
+use Rattle.layout_limits.specs.declared.TheConstants.{MAX_SIDE}
 use Rattle.layout_geom.specs.declared.rect.Rect.{Rect}
 use Rattle.layout_geom.specs.Rectangles.{width_of, height_of, area_of, Encloses}
 use Rattle.layout_geom.specs.Keys.{rect_key, Outranks}
@@ -17,13 +18,13 @@ digits_of key = omega arith
 
 -- the measures that a key stands for
 abbrev pub width_in : ℕ → ℕ
-width_in key = 8192 - key % 8192
+width_in key = MAX_SIDE - key % 8192
 
 abbrev pub left_in : ℕ → ℕ
-left_in key = 8191 - key / 8192 % 8192
+left_in key = MAX_SIDE - 1 - key / 8192 % 8192
 
 abbrev pub top_in : ℕ → ℕ
-top_in key = 8191 - key / 67108864 % 8192
+top_in key = MAX_SIDE - 1 - key / 67108864 % 8192
 
 abbrev pub area_in : ℕ → ℕ
 area_in key = key / 549755813888 + 1
@@ -41,7 +42,7 @@ some_area r = mul-pos (omega (arith, r.sides.wide)) (omega (arith, r.sides.high)
 pub decoded : (r : Rect) (key : ℕ) → rect_key r ≡ key → IsDecoded key r
 unfolding rect_key
 decoded r key e =
-    let digits = same_digits (area_of r - 1) (8191 - r.y0) (8191 - r.x0) (8192 - width_of r) (key / 549755813888) (key / 67108864 % 8192) (key / 8192 % 8192) (key % 8192)
+    let digits = same_digits (area_of r - 1) (MAX_SIDE - 1 - r.y0) (MAX_SIDE - 1 - r.x0) (MAX_SIDE - width_of r) (key / 549755813888) (key / 67108864 % 8192) (key / 8192 % 8192) (key % 8192)
     (omega arith) (omega arith) (omega (arith, r.sides.wide)) (omega arith) (omega arith) (omega arith) (e ∙ sym (digits_of key)) in
     record {
       width = omega (arith, digits.3, r.sides.wide, r.sides.right);
