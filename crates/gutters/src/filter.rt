@@ -4,7 +4,8 @@ ghost use Rattle.gutters.specs.Gutters.{left_count, right_count, IsGutter, is_gu
 
 use crate::beside::{stands_left, stands_right};
 use components::Kept;
-use layout_geom::{OutOfMemory, Rect, Rects};
+use layout_geom::{Rect, Rects};
+use layout_limits::OutOfMemory;
 use std::alloc::Global;
 
 /// The least number of boxes on either side of a gutter.

@@ -8,4 +8,3 @@ mod tests;
 
 pub use beside::{stands_left, stands_right};
 pub use filter::{gutters, is_gutter};
-pub use layout_geom::OutOfMemory;

@@ -13,8 +13,8 @@ same_digits : (a b c d a' b' c' d' : ℕ) → b < 8192 → c < 8192 → d < 8192
 same_digits a b c d a' b' c' d' hb hc hd hb' hc' hd' e = (omega arith, omega arith, omega arith, omega arith)
 
 -- a number's digits
-pub digits_of : (key : ℕ) → key / 549755813888 * 549755813888 + (key / 67108864 % 8192) * 67108864 + (key / 8192 % 8192) * 8192 + key % 8192 ≡ key
-digits_of key = omega arith
+pub key_digits : (key : ℕ) → key / 549755813888 * 549755813888 + (key / 67108864 % 8192) * 67108864 + (key / 8192 % 8192) * 8192 + key % 8192 ≡ key
+key_digits key = omega arith
 
 -- the measures that a key stands for
 abbrev pub width_in : ℕ → ℕ
@@ -43,7 +43,7 @@ pub decoded : (r : Rect) (key : ℕ) → rect_key r ≡ key → IsDecoded key r
 unfolding rect_key
 decoded r key e =
     let digits = same_digits (area_of r - 1) (MAX_SIDE - 1 - r.y0) (MAX_SIDE - 1 - r.x0) (MAX_SIDE - width_of r) (key / 549755813888) (key / 67108864 % 8192) (key / 8192 % 8192) (key % 8192)
-    (omega arith) (omega arith) (omega (arith, r.sides.wide)) (omega arith) (omega arith) (omega arith) (e ∙ sym (digits_of key)) in
+    (omega arith) (omega arith) (omega (arith, r.sides.wide)) (omega arith) (omega arith) (omega arith) (e ∙ sym (key_digits key)) in
     record {
       width = omega (arith, digits.3, r.sides.wide, r.sides.right);
       left = omega (arith, digits.2, r.sides.wide, r.sides.right);

@@ -2,7 +2,7 @@
 use Rattle.std.specs.Prelude.{◌≡◌, ℕ, ◌+◌, ◌*◌, ◌≤◌, ℤ, pos, negsuc, ◌≤ℤ◌, Bool, false, not, ◌&&◌, ◌==◌, nat_le, List, [], ◌∷◌, Option, Some, None, slice_get, length, IfSome, All}
 use Rattle.std.specs.List.{filter, list_any, range_with_len}
 use Rattle.layout_geom.specs.declared.rect.Rect.{Rect}
-use Rattle.layout_geom.specs.Rectangles.{width_of, height_of, Encloses}
+use Rattle.layout_geom.specs.Rectangles.{Encloses, IsLeastRect}
 use Rattle.components.specs.declared.kept.Kept.{Kept}
 use Rattle.line_quality.specs.Points.{IsSlope}
 use Rattle.line_quality.specs.Scores.{IsScore, group_of}
@@ -13,10 +13,9 @@ use Rattle.line_search.specs.declared.line.Line.{Line}
 abbrev pub IsRound : List Rect → List ℕ → Rect → Type 0
 IsRound boxes positions outer = All (λ position. IfSome (slice_get boxes position) (λ box. Encloses outer box)) positions
 
--- and each other rectangle that does encloses this one
-pub record IsLeastRound (boxes : List Rect) (positions : List ℕ) (r : Rect) : Type 0 where
-  pub round : IsRound boxes positions r
-  pub least : (outer : Rect) → IsRound boxes positions outer → Encloses outer r
+-- the least rectangle that does
+abbrev pub IsLeastRound : List Rect → List ℕ → Rect → Type 0
+IsLeastRound boxes positions r = IsLeastRect (IsRound boxes positions) r
 
 -- the positions that are left without the members of a line
 abbrev pub without : List ℕ → List ℕ → List ℕ
