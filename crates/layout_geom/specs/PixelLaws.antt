@@ -42,7 +42,12 @@ has_pixels_of r s e = λ x y has. record {
 -- the corners are enough
 pub encloses : (r s : Rect) → HasPixelsOf r s → Encloses r s
 encloses r s has =
-    let first : HasPixel r s.x0 s.y0 = has s.x0 s.y0 (record { from_left = omega arith; to_right = s.sides.wide; from_top = omega arith; to_bottom = s.sides.high }) in
+    let first : HasPixel r s.x0 s.y0 = has s.x0 s.y0 (record {
+      from_left = omega arith;
+      to_right = s.sides.wide;
+      from_top = omega arith;
+      to_bottom = s.sides.high;
+    }) in
     let last : HasPixel r (s.x1 - 1) (s.y1 - 1) = has (s.x1 - 1) (s.y1 - 1) (record {
       from_left = omega (arith, s.sides.wide);
       to_right = omega (arith, s.sides.wide);
@@ -65,4 +70,5 @@ pub hull_small : (outer r s : Rect) → Encloses outer r → Encloses outer s �
 hull_small outer r s first second =
     let wide : max r.x1 s.x1 - min r.x0 s.x0 ≤ outer.x1 - outer.x0 = omega (arith, first.left, first.right, second.left, second.right) in
     let high : max r.y1 s.y1 - min r.y0 s.y0 ≤ outer.y1 - outer.y0 = omega (arith, first.top, first.bottom, second.top, second.bottom) in
-    omega (arith, mul-le (max r.x1 s.x1 - min r.x0 s.x0) (max r.y1 s.y1 - min r.y0 s.y0) (outer.x1 - outer.x0) (outer.y1 - outer.y0) wide high, outer.sides.small)
+    let few = mul-le (max r.x1 s.x1 - min r.x0 s.x0) (max r.y1 s.y1 - min r.y0 s.y0) (outer.x1 - outer.x0) (outer.y1 - outer.y0) wide high in
+    omega (arith, few, outer.sides.small)

@@ -26,7 +26,8 @@ impl Rect {
     ghost use Rattle.std.specs.Prelude.{◌≡◌, ◌≢◌, ℕ, ◌<◌, ◌≤◌, ◌^◌, Some, IfSome, IsSome, IfNone, IsTrue, ◌↔◌, Any};
     ghost use Rattle.layout_geom.specs.Sides.{AreSides};
     ghost use Rattle.layout_geom.specs.declared.rect.Rect.{Rect};
-    ghost use Rattle.layout_geom.specs.Rectangles.{width_of, height_of, area_of, Overlaps, SharesPixel, Encloses, HasPixelsOf, HasSides, hull_area, IsHull, IsPart, IsCut, HoldsIn};
+    ghost use Rattle.layout_geom.specs.Rectangles.{width_of, height_of, area_of, Overlaps, SharesPixel, Encloses, HasPixelsOf, HasSides};
+    ghost use Rattle.layout_geom.specs.Rectangles.{hull_area, IsHull, IsPart, IsCut, HoldsIn};
     ghost use Rattle.layout_geom.specs.Keys.{rect_key, Outranks};
 
     /// The rectangle of these sides. It is `None` exactly where they are no sides of a rectangle:

@@ -10,7 +10,7 @@ use std::alloc::Global;
 
 /// Whether a box has about the size of a character.
 fn is_character(rect: &Rect, median: u16) -> bool
-    ensures { result ≡ Lines.is_char_sized median (Some rect.now) }
+    ensures { result ≡ Lines.is_character median (Some rect.now) }
 {
     is_char_sized(rect, median)
 }
