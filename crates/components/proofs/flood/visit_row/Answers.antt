@@ -1,4 +1,4 @@
-use Rattle.std.proofs.Common.{◌≡◌, ◌<◌, ◌≤◌, ◌+◌, length, sym, subst, rules, arith}
+use Rattle.std.proofs.Common.{◌≡◌, ◌<◌, ◌≤◌, length, sym, subst, rules, arith}
 use Rattle.components.specs.Runs.{run_at, IsTouching, IsTouchingAt}
 use Rattle.components.proofs.RunWalk.{runs_grew, grew_wider}
 use Rattle.components.proofs.RowVisits.{ends_read, in_row, all_visited, all_right, read_run, passed_more}
