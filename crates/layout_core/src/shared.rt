@@ -18,8 +18,9 @@ ghost use Rattle.layout_core.specs.declared.refusal.Refusal.{Refusal};
 
 use crate::job::lay_out;
 use crate::refusal::{Refusal, refuse};
-use box_search::{FromFn, OutOfMemory};
+use box_search::FromFn;
 use command_words::{Plan, Program, WordFault, words_have_one_plan, words_of};
+use layout_limits::OutOfMemory;
 use layout_outside::{Sink, Source};
 use lease_workers::{Gate, Workers};
 use line_search::Grid;

@@ -11,9 +11,10 @@ ghost use Rattle.layout_core.specs.declared.refusal.Refusal.{Refusal};
 
 use crate::page_layout::{CoreFault, layout_of};
 use crate::refusal::{Refusal, refuse};
-use box_search::{OutOfMemory, Searcher};
+use box_search::Searcher;
 use command_words::{Plan, Program};
 use hocr_writer::{Layout, summary_text};
+use layout_limits::OutOfMemory;
 use layout_outside::{Sink, put_all};
 use line_search::Grid;
 use made_page::{made_page_has_few_components, make_page};
