@@ -1,3 +1,4 @@
+-- What the calls of a frontier do.
 use Rattle.std.specs.Prelude.{◌≡◌, ℕ, ◌<◌, ◌≤◌, List, [], ◌∷◌, ◌++◌, length, All, filter, nat_lt}
 use Rattle.std.specs.List.Sorted.{IsPermutation}
 use Rattle.box_search.specs.declared.space.Node.{Node}

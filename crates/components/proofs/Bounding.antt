@@ -2,16 +2,19 @@
 use Rattle.std.proofs.Common.{◌≡◌, ◌<◌, ◌≤◌, ℕ, ◌+◌, ◌*◌, ◌-◌, inl, inr, arith}
 use Rattle.std.proofs.lemmas.Bool.{cases_lt}
 use Rattle.std.proofs.Math.Nat.{mul-le-mul_right, mul-le-mul_left}
+use Rattle.layout_limits.specs.declared.TheConstants.{MAX_PIXELS}
 use Rattle.page_runs.specs.Page.{Page, IsPageSize}
 use Rattle.layout_geom.specs.declared.rect.Rect.{Rect}
 use Rattle.layout_geom.specs.Sides.{AreSides}
 use Rattle.layout_geom.specs.Rectangles.{HasSides}
 use Rattle.components.specs.declared.place.Place.{Place}
 use Rattle.components.specs.declared.bounds.Bounds.{Bounds}
+use Rattle.components.specs.declared.row_runs.Run.{Run}
 use Rattle.components.specs.Connected.{IsConnected}
 use Rattle.components.specs.Around.{widened}
+use Rattle.components.specs.Runs.{first_of, last_of}
 use Rattle.components.specs.Boxes.{IsBoxOf}
-use Rattle.components.proofs.Paths.{at_end}
+use Rattle.components.proofs.Paths.{end_is_black}
 
 -- the place lies within the sides
 pub record HasPlace (b : Bounds) (p : Place) : Type 0 where
@@ -27,15 +30,15 @@ pub record IsTouched (S : Place → Type 0) (b : Bounds) : Type 0 where
   pub top : (p : Place) × S p × (p.y ≡ b.y0)
   pub bottom : (p : Place) × S p × (p.y + 1 ≡ b.y1)
 
-pub within_wider : (bounds : Bounds) (place p : Place) → HasPlace bounds p → HasPlace (widened bounds place) p
-within_wider bounds place p has = record { from_left = omega (arith, has.from_left); to_right = omega (arith, has.to_right); from_top = omega (arith, has.from_top); to_bottom = omega (arith, has.to_bottom) }
+pub within_wider : (bounds : Bounds) (run : Run) (p : Place) → HasPlace bounds p → HasPlace (widened bounds run) p
+within_wider bounds run p has = record { from_left = omega (arith, has.from_left); to_right = omega (arith, has.to_right); from_top = omega (arith, has.from_top); to_bottom = omega (arith, has.to_bottom) }
 
-pub still_touched : (S : Place → Type 0) (bounds : Bounds) (place : Place) → S place → IsTouched S bounds → IsTouched S (widened bounds place)
-still_touched S bounds place of touched = record {
-  left = elim (cases_lt place.x bounds.x0) [ inl less ↦ (place, of, omega arith) | inr not_less ↦ ((touched.left).0, (touched.left).1, omega (arith, (touched.left).2)) ];
-  right = elim (cases_lt bounds.x1 (place.x + 1)) [ inl more ↦ (place, of, omega arith) | inr not_more ↦ ((touched.right).0, (touched.right).1, omega (arith, (touched.right).2)) ];
-  top = elim (cases_lt place.y bounds.y0) [ inl less ↦ (place, of, omega arith) | inr not_less ↦ ((touched.top).0, (touched.top).1, omega (arith, (touched.top).2)) ];
-  bottom = elim (cases_lt bounds.y1 (place.y + 1)) [ inl more ↦ (place, of, omega arith) | inr not_more ↦ ((touched.bottom).0, (touched.bottom).1, omega (arith, (touched.bottom).2)) ];
+pub still_touched : (S : Place → Type 0) (bounds : Bounds) (run : Run) → run.x0 < run.x1 → S (first_of run) → S (last_of run) → IsTouched S bounds → IsTouched S (widened bounds run)
+still_touched S bounds run some first last touched = record {
+  left = elim (cases_lt run.x0 bounds.x0) [ inl less ↦ (first_of run, first, omega arith) | inr not_less ↦ ((touched.left).0, (touched.left).1, omega (arith, (touched.left).2)) ];
+  right = elim (cases_lt bounds.x1 run.x1) [ inl more ↦ (last_of run, last, omega (arith, some)) | inr not_more ↦ ((touched.right).0, (touched.right).1, omega (arith, (touched.right).2)) ];
+  top = elim (cases_lt run.row bounds.y0) [ inl less ↦ (first_of run, first, omega arith) | inr not_less ↦ ((touched.top).0, (touched.top).1, omega (arith, (touched.top).2)) ];
+  bottom = elim (cases_lt bounds.y1 (run.row + 1)) [ inl more ↦ (first_of run, first, omega arith) | inr not_more ↦ ((touched.bottom).0, (touched.bottom).1, omega (arith, (touched.bottom).2)) ];
 }
 
 -- the rectangle of the sides
@@ -43,7 +46,7 @@ pub is_box : (page : Page) (start : Place) (bounds : Bounds) (box : Rect)
     → IsTouched (IsConnected page start) bounds → ((p : Place) → IsConnected page start p → HasPlace bounds p)
     → HasSides box bounds.x0 bounds.y0 bounds.x1 bounds.y1 → IsBoxOf page start box
 is_box page start bounds box touched has sides = record {
-  has = λ q c. let h = has q c in record { from_left = omega (arith, h.from_left, sides.left); to_right = omega (arith, h.to_right, sides.right); from_top = omega (arith, h.from_top, sides.top); to_bottom = omega (arith, h.to_bottom, sides.bottom) };
+  round = λ q c. let h = has q c in record { from_left = omega (arith, h.from_left, sides.left); to_right = omega (arith, h.to_right, sides.right); from_top = omega (arith, h.from_top, sides.top); to_bottom = omega (arith, h.to_bottom, sides.bottom) };
   least = λ other holds.
       let left = holds (touched.left).0 (touched.left).1 in
       let right = holds (touched.right).0 (touched.right).1 in
@@ -57,15 +60,15 @@ is_box page start bounds box touched has sides = record {
       };
 }
 
-smaller : (w h width height : ℕ) → w ≤ width → h ≤ height → width * height ≤ 33554432 → w * h ≤ 33554432
+smaller : (w h width height : ℕ) → w ≤ width → h ≤ height → width * height ≤ MAX_PIXELS → w * h ≤ MAX_PIXELS
 smaller w h width height narrow low small = omega (arith, mul-le-mul_right h narrow, mul-le-mul_left width low)
 
 pub are_sides : (page : Page) (start : Place) (bounds : Bounds) → IsTouched (IsConnected page start) bounds → ((p : Place) → IsConnected page start p → HasPlace bounds p)
     → IsPageSize page.width page.height → AreSides bounds.x0 bounds.y0 bounds.x1 bounds.y1
 are_sides page start bounds touched has sizes =
     let corner = has (touched.left).0 (touched.left).1 in
-    let right = (at_end page start (touched.right).0 (touched.right).1).in_row in
-    let bottom = (at_end page start (touched.bottom).0 (touched.bottom).1).in_column in
+    let right = (end_is_black page start (touched.right).0 (touched.right).1).in_row in
+    let bottom = (end_is_black page start (touched.bottom).0 (touched.bottom).1).in_column in
     let wide : bounds.x1 ≤ page.width = omega (arith, right, (touched.right).2) in
     let high : bounds.y1 ≤ page.height = omega (arith, bottom, (touched.bottom).2) in
     record {

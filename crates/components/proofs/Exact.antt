@@ -1,48 +1,24 @@
 -- A page has one list of kept boxes.
-use Rattle.std.proofs.Common.{◌≡◌, ◌<◌, ℕ, zero, suc, List, [], ◌∷◌, length, get_or, inl, inr, sym, ap, subst, ◌∙◌, arith}
+use Rattle.std.proofs.Common.{◌≡◌, ◌<◌, ℕ, zero, suc, List, [], ◌∷◌, length, get_or, inl, inr, sym, subst, ◌∙◌, arith}
 use Rattle.std.specs.Prelude.{Any}
 use Rattle.std.specs.List.{AllZip, AllPairs}
 use Rattle.std.specs.List.Sorted.{IsPermutation}
 use Rattle.std.proofs.lemmas.List.Sorted.{length_permutation, sum_by-IsPermutation}
-use Rattle.std.proofs.Props.{props}
 use Rattle.page_runs.specs.Page.{Page}
 use Rattle.layout_geom.specs.declared.rect.Rect.{Rect}
-use Rattle.layout_geom.specs.Sides.{AreSides}
-use Rattle.layout_geom.specs.Rectangles.{Encloses, HasSides}
+use Rattle.layout_geom.specs.SameSides.{same_sides, one_least}
 use Rattle.components.specs.declared.place.Place.{Place}
 use Rattle.components.specs.Connected.{IsConnected}
-use Rattle.components.specs.Boxes.{IsKept}
+use Rattle.components.specs.Boxes.{HasComponent, IsKept}
 use Rattle.components.specs.Kept.{IsKeptBoxes, IsKeptCount, IsKeptList}
-use Rattle.components.proofs.Paths.{onwards, back}
+use Rattle.components.proofs.Paths.{onwards, connected_back}
 use Rattle.components.proofs.Scanning.{box_moves}
 use Rattle.components.proofs.Sorted.{sorted_same}
-use Rattle.components.proofs.Unique.{Each, Some_of, Apart, same_boxes}
+use Rattle.components.proofs.Unique.{Each, Some_of, Apart, boxes_rearranged}
 
-sides_prop : (x0 y0 x1 y1 : ℕ) → IsProp (AreSides x0 y0 x1 y1)
-sides_prop x0 y0 x1 y1 = hlevel props
-
-abbrev rect_of : (x0 y0 x1 y1 : ℕ) → AreSides x0 y0 x1 y1 → Rect
-rect_of x0 y0 x1 y1 p = record { x0 = x0; y0 = y0; x1 = x1; y1 = y1; sides = p }
-
-IsMadeOf : Rect → ℕ → ℕ → ℕ → ℕ → Type 0
-IsMadeOf s x0 y0 x1 y1 = (p : AreSides x0 y0 x1 y1) → rect_of x0 y0 x1 y1 p ≡ s
-
--- a rectangle is its sides
-same_sides : (r s : Rect) → HasSides r s.x0 s.y0 s.x1 s.y1 → r ≡ s
-unfolding IsMadeOf
-same_sides r s is =
-    let here : IsMadeOf s s.x0 s.y0 s.x1 s.y1 = λ p. ap (rect_of s.x0 s.y0 s.x1 s.y1) (sides_prop s.x0 s.y0 s.x1 s.y1 p s.sides) in
-    subst (λ y1. IsMadeOf s r.x0 r.y0 r.x1 y1) (sym is.bottom)
-    (subst (λ x1. IsMadeOf s r.x0 r.y0 x1 s.y1) (sym is.right)
-    (subst (λ y0. IsMadeOf s r.x0 y0 s.x1 s.y1) (sym is.top)
-    (subst (λ x0. IsMadeOf s x0 s.y0 s.x1 s.y1) (sym is.left) here))) r.sides
-
-same_box : (page : Page) (p q : Place) (box other : Rect) → IsKept page p box → IsKept page q other → IsConnected page p q → box ≡ other
-same_box page p q box other kept kept2 c =
-    let moved = box_moves page p q other c kept2.is_box in
-    let outer : Encloses box other = moved.least box kept.is_box.has in
-    let inner : Encloses other box = kept.is_box.least other moved.has in
-    same_sides box other (record { left = omega (arith, outer.left, inner.left); top = omega (arith, outer.top, inner.top); right = omega (arith, outer.right, inner.right); bottom = omega (arith, outer.bottom, inner.bottom) })
+one_kept_box : (page : Page) (p q : Place) (box other : Rect) → IsKept page p box → IsKept page q other → IsConnected page p q → box ≡ other
+one_kept_box page p q box other kept kept2 c =
+    one_least (HasComponent page p) box other kept.is_box (box_moves page p q other c kept2.is_box)
 
 -- between facts by index and facts by recursion
 some_from_any : (P : Place → Type 0) (xs : List Place) (k : ℕ) (x : Place) → k < length xs → get_or xs k x ≡ x → P x → Some_of P xs
@@ -71,9 +47,9 @@ covered page qs every (p ∷ ps) (b ∷ boxes) zip =
     (some_from_any (IsConnected page p) qs any.0 any.1 any.2 any.3 any.4, covered page qs every ps boxes zip.1)
 
 -- two lists of the boxes of the kept components have the same boxes
-pub same_kept : (page : Page) (boxes others : List Rect) → IsKeptBoxes page boxes → IsKeptBoxes page others → IsPermutation boxes others
-same_kept page boxes others kept kept2 =
-    same_boxes (IsKept page) (IsConnected page) (back page) (onwards page) (same_box page) kept.places boxes kept2.places others
+pub same_kept_boxes : (page : Page) (boxes others : List Rect) → IsKeptBoxes page boxes → IsKeptBoxes page others → IsPermutation boxes others
+same_kept_boxes page boxes others kept kept2 =
+    boxes_rearranged (IsKept page) (IsConnected page) (connected_back page) (onwards page) (one_kept_box page) kept.places boxes kept2.places others
     kept.are_kept.kept kept2.are_kept.kept
     (apart_from_pairs (IsConnected page) kept.places kept.are_kept.apart) (apart_from_pairs (IsConnected page) kept2.places kept2.are_kept.apart)
     (covered page kept2.places kept2.are_kept.every kept.places boxes kept.are_kept.kept)
@@ -81,11 +57,11 @@ same_kept page boxes others kept kept2 =
 
 -- a page has one number of kept components
 pub same_count : (page : Page) (m n : ℕ) → IsKeptCount page m → IsKeptCount page n → m ≡ n
-same_count page m n first second = sym first.counted ∙ sym (length_permutation _ _ (same_kept page first.found second.found first.is_kept second.is_kept)) ∙ second.counted
+same_count page m n first second = sym first.counted ∙ sym (length_permutation _ _ (same_kept_boxes page first.found second.found first.is_kept second.is_kept)) ∙ second.counted
 
 -- a page has one list of kept boxes
 pub same_list : (page : Page) (boxes others : List Rect) → IsKeptList page boxes → IsKeptList page others → boxes ≡ others
 same_list page boxes others first second =
-    let found = same_kept page first.found second.found first.is_kept second.is_kept in
+    let found = same_kept_boxes page first.found second.found first.is_kept second.is_kept in
     sorted_same boxes others same_sides first.sorted second.sorted
     (λ f. sum_by-IsPermutation f _ _ first.rearranged ∙ sym (sum_by-IsPermutation f _ _ found) ∙ sym (sum_by-IsPermutation f _ _ second.rearranged))

@@ -23,7 +23,7 @@ connected_moves page other to p r c = record { from = to p c.from; path = c.path
 
 box_moves : (page other : Page) → AreBlackOn page other → AreBlackOn other page → (p : Place) (box : Rect) → IsBoxOf page p box → IsBoxOf other p box
 box_moves page other to from p box is = record {
-  has = λ q c. is.has q (connected_moves other page from p q c);
+  round = λ q c. is.round q (connected_moves other page from p q c);
   least = λ rect holds. is.least rect (λ q c. holds q (connected_moves page other to p q c));
 }
 

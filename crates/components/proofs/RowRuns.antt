@@ -10,21 +10,17 @@ use Rattle.components.specs.Runs.{run_at, no_run, AddsRow}
 
 -- ---- the pixels of a byte
 
-pub not_black : (bits : List ℕ) (x : ℕ) → (pixel bits x ≡ 1 → ⊥) → pixel bits x ≡ 0
-not_black bits x other = small (pixel bits x) (bit_at-lt (get_or bits (x / 8) 0) (7 - x % 8)) other
+-- a pixel that has not the one colour has the other
+pub other_colour : (colour : ℕ) (bits : List ℕ) (x : ℕ) → colour ≤ 1 → (pixel bits x ≡ colour → ⊥) → pixel bits x ≡ 1 - colour
+other_colour colour bits x small other = one_of_two colour (pixel bits x) small (bit_at-lt (get_or bits (x / 8) 0) (7 - x % 8)) other
   where
-    small : (b : ℕ) → b < 2 → (b ≡ 1 → ⊥) → b ≡ 0
-    small zero lt other = refl
-    small (suc zero) lt other = absurd (other refl)
-    small (suc (suc n)) lt other = absurd (omega (arith, lt))
-
-pub not_white : (bits : List ℕ) (x : ℕ) → (pixel bits x ≡ 0 → ⊥) → pixel bits x ≡ 1
-not_white bits x other = small (pixel bits x) (bit_at-lt (get_or bits (x / 8) 0) (7 - x % 8)) other
-  where
-    small : (b : ℕ) → b < 2 → (b ≡ 0 → ⊥) → b ≡ 1
-    small zero lt other = absurd (other refl)
-    small (suc zero) lt other = refl
-    small (suc (suc n)) lt other = absurd (omega (arith, lt))
+    one_of_two : (a b : ℕ) → a ≤ 1 → b < 2 → (b ≡ a → ⊥) → b ≡ 1 - a
+    one_of_two zero zero small lt other = absurd (other refl)
+    one_of_two zero (suc zero) small lt other = refl
+    one_of_two (suc zero) zero small lt other = refl
+    one_of_two (suc zero) (suc zero) small lt other = absurd (other refl)
+    one_of_two (suc (suc a)) b small lt other = absurd (omega (arith, small))
+    one_of_two a (suc (suc b)) small lt other = absurd (omega (arith, lt))
 
 ones : (j : ℕ) → j < 8 → bit_at 255 j ≡ 1
 ones zero lt = refl
@@ -57,11 +53,12 @@ byte_passed value byte bits from x next each all is bound k left right = elim (c
       ap (λ (i : ℕ). bit_at (get_or bits i 0) (7 - k % 8)) same ∙ ap (λ (b : ℕ). bit_at b (7 - k % 8)) is ∙ each (7 - k % 8) small
 ]
 
-pub white_byte : (bits : List ℕ) (from x next : ℕ) → AreAll 0 bits from x → get_or bits (x / 8) 0 ≡ 0 → next ≤ (x / 8 + 1) * 8 → AreAll 0 bits from next
-white_byte bits from x next all is bound = byte_passed 0 0 bits from x next (λ j lt. bit_at-zero j) all is bound
-
-pub black_byte : (bits : List ℕ) (from x next : ℕ) → AreAll 1 bits from x → get_or bits (x / 8) 0 ≡ 255 → next ≤ (x / 8 + 1) * 8 → AreAll 1 bits from next
-black_byte bits from x next all is bound = byte_passed 1 255 bits from x next ones all is bound
+-- a byte all of whose pixels have the other colour
+pub whole_byte : (colour : ℕ) (bits : List ℕ) (from x next : ℕ) → colour ≤ 1 → AreAll (1 - colour) bits from x
+    → get_or bits (x / 8) 0 ≡ 255 * (1 - colour) → next ≤ (x / 8 + 1) * 8 → AreAll (1 - colour) bits from next
+whole_byte zero bits from x next small all is bound = byte_passed 1 255 bits from x next ones all is bound
+whole_byte (suc zero) bits from x next small all is bound = byte_passed 0 0 bits from x next (λ j lt. bit_at-zero j) all is bound
+whole_byte (suc (suc n)) bits from x next small all is bound = absurd (omega (arith, small))
 
 -- ---- one run more
 
@@ -73,9 +70,9 @@ at_new runs run i last =
     let e : i - i ≡ 0 = omega arith in
     get_or-append_right runs (run ∷ []) i i no_run (sym last) (omega arith) ∙ ap (λ (k : ℕ). get_or (run ∷ []) k no_run) e
 
-each_more : (runs : List Run) (run : Run) (P : Run → Type 0) (i : ℕ) → i < length (runs ++ run ∷ [])
+each_run_more : (runs : List Run) (run : Run) (P : Run → Type 0) (i : ℕ) → i < length (runs ++ run ∷ [])
     → (i < length runs → P (run_at runs i)) → P run → P (run_at (runs ++ run ∷ []) i)
-each_more runs run P i below old new = elim (cases_lt i (length runs)) [
+each_run_more runs run P i below old new = elim (cases_lt i (length runs)) [
   | inl before ↦ subst P (sym (at_old runs run i before)) (old before)
   | inr last ↦ subst P (sym (at_new runs run i (omega (arith, last, below, length-append runs (run ∷ []))))) new
 ]
@@ -105,14 +102,14 @@ run_added bits row width x end next old now added some on blacks ended whites =
     record {
       longer = omega (arith, added.longer, len);
       still = λ i below. at_old now run i (omega (arith, below, added.longer)) ∙ added.still i below;
-      level = λ i from below. each_more now run (λ r. r.row ≡ row) i below (λ before. added.level i from before) refl;
-      some = λ i from below. each_more now run (λ r. r.x0 < r.x1) i below (λ before. added.some i from before) some;
-      left = λ i from below. each_more now run (λ r. r.x1 ≤ next) i below (λ before. omega (arith, added.left i from before, some, on)) on;
-      blacks = λ i k from below. each_more now run (λ r. r.x0 ≤ k → k < r.x1 → pixel bits k ≡ 1) i below (λ before. added.blacks i k from before) (blacks k);
-      maximal = λ i from below. each_more now run (λ r. r.x1 < width → pixel bits r.x1 ≡ 0) i below (λ before. added.maximal i from before) ended;
+      level = λ i from below. each_run_more now run (λ r. r.row ≡ row) i below (λ before. added.level i from before) refl;
+      some = λ i from below. each_run_more now run (λ r. r.x0 < r.x1) i below (λ before. added.some i from before) some;
+      left = λ i from below. each_run_more now run (λ r. r.x1 ≤ next) i below (λ before. omega (arith, added.left i from before, some, on)) on;
+      blacks = λ i k from below. each_run_more now run (λ r. r.x0 ≤ k → k < r.x1 → pixel bits k ≡ 1) i below (λ before. added.blacks i k from before) (blacks k);
+      maximal = λ i from below. each_run_more now run (λ r. r.x1 < width → pixel bits r.x1 ≡ 0) i below (λ before. added.maximal i from before) ended;
       order = λ i j from less below.
           let first : run_at all i ≡ run_at now i = at_old now run i (omega (arith, less, below, len)) in
-          each_more now run (λ r. (run_at all i).x1 ≤ r.x0) j below
+          each_run_more now run (λ r. (run_at all i).x1 ≤ r.x0) j below
           (λ before. subst (λ (r : Run). r.x1 ≤ (run_at now j).x0) (sym first) (added.order i j from less before))
           (subst (λ (r : Run). r.x1 ≤ x) (sym first) (added.left i from (omega (arith, less, below, len))));
       every = λ k left black. elim (cases_lt k x) [

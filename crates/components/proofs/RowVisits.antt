@@ -4,17 +4,17 @@ use Rattle.std.specs.Prelude.{slice_index}
 use Rattle.std.proofs.lemmas.Bool.{cases_lt}
 use Rattle.std.proofs.lemmas.List.{get_or_default}
 use Rattle.components.specs.declared.row_runs.Run.{Run}
-use Rattle.components.specs.Runs.{run_at, no_run, AreInOrder, AreStarts, IsTouching, IsMarkedRun}
+use Rattle.components.specs.Runs.{run_at, no_run, AreRunsInOrder, AreStarts, IsTouching, IsMarkedRun}
 
 -- the right ends of these runs do not fall
 abbrev pub DoRise : List Run → ℕ → ℕ → Type 0
 DoRise runs from to = (i j : ℕ) → from ≤ i → i < j → j < to → (run_at runs i).x1 ≤ (run_at runs j).x1
 
-module _ (runs : List Run) (starts : List ℕ) (in_order : AreInOrder runs) (are : AreStarts runs starts) (row : ℕ) (within : row + 1 < length starts) where
-  pub last_within : slice_index starts (row + 1) ≤ length runs
+module _ (runs : List Run) (starts : List ℕ) (in_order : AreRunsInOrder runs) (are : AreStarts runs starts) (row : ℕ) (within : row + 1 < length starts) where
+  last_within : slice_index starts (row + 1) ≤ length runs
   last_within = are.within (row + 1) within
 
-  pub row_order : slice_index starts row ≤ slice_index starts (row + 1)
+  row_order : slice_index starts row ≤ slice_index starts (row + 1)
   row_order = elim (cases_lt (slice_index starts (row + 1)) (slice_index starts row)) [
     | inl falls ↦
         let first = slice_index starts (row + 1) in
@@ -71,8 +71,29 @@ module _ (runs : List Run) (starts : List ℕ) (in_order : AreInOrder runs) (are
     | inr at ↦ let e : first ≡ i = omega (arith, at, after) in subst (λ (k : ℕ). x < (run_at runs k).x0) e right
   ]
 
-pub read_start : (starts : List ℕ) (v n : ℕ) → n ≡ get_or starts v n → v < length starts → n ≡ slice_index starts v
+read_start : (starts : List ℕ) (v n : ℕ) → n ≡ get_or starts v n → v < length starts → n ≡ slice_index starts v
 read_start starts v n is below = is ∙ get_or_default starts v n 0 below
+
+-- where the runs of a row begin and end, as these are read from the table
+pub record AreEnds (runs : List Run) (starts : List ℕ) (row from to : ℕ) : Type 0 where
+  pub row_there : row + 1 < length starts
+  pub start : from ≡ slice_index starts row
+  pub end : to ≡ slice_index starts (row + 1)
+  pub order : from ≤ to
+  pub last : to ≤ length runs
+
+pub ends_read : (runs : List Run) (starts : List ℕ) (row from to : ℕ) → AreRunsInOrder runs → AreStarts runs starts → row + 1 < length starts
+    → from ≡ get_or starts row from → to ≡ get_or starts (row + 1) to → AreEnds runs starts row from to
+ends_read runs starts row from to in_order are there from_is to_is =
+    let start = read_start starts row from from_is (omega (arith, there)) in
+    let end = read_start starts (row + 1) to to_is there in
+    record {
+      row_there = there;
+      start = start;
+      end = end;
+      order = omega (arith, start, end, row_order runs starts in_order are row there);
+      last = omega (arith, end, last_within runs starts in_order are row there);
+    }
 
 pub read_run : (runs : List Run) (i : ℕ) (run : Run) → run ≡ get_or runs i run → i < length runs → run ≡ run_at runs i
 read_run runs i run is below = is ∙ get_or_default runs i run no_run below

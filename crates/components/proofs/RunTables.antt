@@ -8,7 +8,7 @@ use Rattle.page_runs.specs.Packed.{HasRow}
 use Rattle.components.specs.declared.place.Place.{Place}
 use Rattle.components.specs.declared.row_runs.Run.{Run}
 use Rattle.components.specs.Connected.{IsBlack}
-use Rattle.components.specs.Runs.{IsIn, run_at, behind, IsBefore, AreStarts, IsTableAbove, AddsRow}
+use Rattle.components.specs.Runs.{IsInRun, run_at, place_behind, IsRunBefore, AreStarts, IsTableAbove, AddsRow}
 
 bit_black : (b : Bool) (n : ℕ) → n ≡ cond b 1 0 → n ≡ 1 → b ≡ true
 bit_black true n is one = refl
@@ -18,9 +18,9 @@ bit_white : (b : Bool) (n : ℕ) → n ≡ cond b 1 0 → n ≡ 0 → b ≡ true
 bit_white true n is none black = absurd (omega (arith, is, none))
 bit_white false n is none black = absurd cc
 
-bit_is : (b : Bool) (n : ℕ) → n ≡ cond b 1 0 → b ≡ true → n ≡ 1
-bit_is true n is black = is
-bit_is false n is black = absurd cc
+black_bit : (b : Bool) (n : ℕ) → n ≡ cond b 1 0 → b ≡ true → n ≡ 1
+black_bit true n is black = is
+black_bit false n is black = absurd cc
 
 -- a fact of the runs that were there, and of those of the new row
 module _ (page : Page) (y : ℕ) (runs next : List Run) (starts : List ℕ) (bits : List ℕ)
@@ -40,20 +40,20 @@ module _ (page : Page) (y : ℕ) (runs next : List Run) (starts : List ℕ) (bit
     | inr new ↦ added.some i new below
   ]
 
-  order_more : (i j : ℕ) → i < j → j < length next → IsBefore (run_at next i) (run_at next j)
+  order_more : (i j : ℕ) → i < j → j < length next → IsRunBefore (run_at next i) (run_at next j)
   order_more i j less below = elim (split j) [
     | inl old ↦
-        subst (λ (r : Run). IsBefore r (run_at next j)) (sym (added.still i (omega (arith, less, old))))
-        (subst (λ (r : Run). IsBefore (run_at runs i) r) (sym (added.still j old)) (table.are_runs.in_order.order i j less old))
+        subst (λ (r : Run). IsRunBefore r (run_at next j)) (sym (added.still i (omega (arith, less, old))))
+        (subst (λ (r : Run). IsRunBefore (run_at runs i) r) (sym (added.still j old)) (table.are_runs.in_order.order i j less old))
     | inr new ↦ elim (split i) [
       | inl old ↦ inl (subst (λ (r : Run). r.row < (run_at next j).row) (sym (added.still i old)) (omega (arith, table.are_runs.above i old, added.level j new below)))
       | inr also ↦ inr (added.level i also (omega (arith, less, below)) ∙ sym (added.level j new below), added.order i j also less below)
     ]
   ]
 
-  blacks_more : (i : ℕ) (p : Place) → i < length next → IsIn (run_at next i) p → IsBlack page p
+  blacks_more : (i : ℕ) (p : Place) → i < length next → IsInRun (run_at next i) p → IsBlack page p
   blacks_more i p below inside = elim (split i) [
-    | inl old ↦ table.are_runs.blacks i p old (subst (λ (r : Run). IsIn r p) (added.still i old) inside)
+    | inl old ↦ table.are_runs.blacks i p old (subst (λ (r : Run). IsInRun r p) (added.still i old) inside)
     | inr new ↦
         let level : p.y ≡ y = inside.level ∙ added.level i new below in
         let narrow : p.x < page.width = omega (arith, inside.right, added.left i new below) in
@@ -64,22 +64,22 @@ module _ (page : Page) (y : ℕ) (runs next : List Run) (starts : List ℕ) (bit
         }
   ]
 
-  maximal_more : (i : ℕ) → i < length next → IsBlack page (behind (run_at next i)) → ⊥
+  maximal_more : (i : ℕ) → i < length next → IsBlack page (place_behind (run_at next i)) → ⊥
   maximal_more i below black = elim (split i) [
-    | inl old ↦ table.are_runs.maximal i old (subst (λ (r : Run). IsBlack page (behind r)) (added.still i old) black)
+    | inl old ↦ table.are_runs.maximal i old (subst (λ (r : Run). IsBlack page (place_behind r)) (added.still i old) black)
     | inr new ↦
         let x = (run_at next i).x1 in
         bit_white (page.is_black x y) (pixel bits x) (row.pixels x black.in_row) (added.maximal i new below black.in_row) (ap (λ (v : ℕ). page.is_black x v) (sym (added.level i new below)) ∙ black.black)
   ]
 
-  every_more : (p : Place) → p.y < y + 1 → IsBlack page p → (i : ℕ) × (i < length next) × IsIn (run_at next i) p
+  every_more : (p : Place) → p.y < y + 1 → IsBlack page p → (i : ℕ) × (i < length next) × IsInRun (run_at next i) p
   every_more p low black = elim (cases_lt p.y y) [
     | inl above ↦
         let there = table.are_runs.every p above black in
-        (there.0, omega (arith, there.1, added.longer), subst (λ (r : Run). IsIn r p) (sym (added.still there.0 there.1)) there.2)
+        (there.0, omega (arith, there.1, added.longer), subst (λ (r : Run). IsInRun r p) (sym (added.still there.0 there.1)) there.2)
     | inr not_above ↦
         let level : p.y ≡ y = omega (arith, low, not_above) in
-        let there = added.every p.x black.in_row (bit_is (page.is_black p.x y) (pixel bits p.x) (row.pixels p.x black.in_row) (ap (λ (v : ℕ). page.is_black p.x v) (sym level) ∙ black.black)) in
+        let there = added.every p.x black.in_row (black_bit (page.is_black p.x y) (pixel bits p.x) (row.pixels p.x black.in_row) (ap (λ (v : ℕ). page.is_black p.x v) (sym level) ∙ black.black)) in
         (there.0, there.2, record { level = level ∙ sym (added.level there.0 there.1 there.2); left = there.3; right = there.4 })
   ]
 
@@ -134,8 +134,8 @@ module _ (page : Page) (y : ℕ) (runs next : List Run) (starts : List ℕ) (bit
       wider : (y width a b : ℕ) → a ≤ y * width → b ≤ a + width → b ≤ (y + 1) * width
       wider y width a b few more = omega (arith, few, more)
 
-pub no_rows : (page : Page) → IsTableAbove page 0 [] ([] ++ 0 ∷ [])
-no_rows page = record {
+pub no_runs_above : (page : Page) → IsTableAbove page 0 [] ([] ++ 0 ∷ [])
+no_runs_above page = record {
   are_runs = record {
     in_order = record { some = λ i below. absurd (omega (arith, below)); order = λ i j less below. absurd (omega (arith, below)) };
     above = λ i below. absurd (omega (arith, below));

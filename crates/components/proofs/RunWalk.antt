@@ -1,5 +1,5 @@
 -- Walking over one component run by run.
-use Rattle.std.proofs.Common.{◌≡◌, ◌≢◌, ◌<◌, ◌≤◌, ℕ, ◌+◌, ◌-◌, Bool, true, false, not, cond, List, [], ◌∷◌, ◌++◌, length, get_or, set, ◌⊎◌, inl, inr, refl, sym, ap, subst, ◌∙◌, arith}
+use Rattle.std.proofs.Common.{◌≡◌, ◌≢◌, ◌<◌, ◌≤◌, ℕ, ◌+◌, Bool, true, false, not, cond, List, [], ◌∷◌, ◌++◌, length, get_or, set, ◌⊎◌, inl, inr, refl, sym, ap, subst, ◌∙◌, arith}
 use Rattle.std.specs.Prelude.{Contains, Option, Some, None, MatchOption}
 use Rattle.std.proofs.lemmas.Bool.{cases_order}
 use Rattle.std.proofs.lemmas.List.{get_or-set_same, get_or-set_other, length-set, length-append}
@@ -10,17 +10,18 @@ use Rattle.components.specs.declared.place.Place.{Place}
 use Rattle.components.specs.declared.row_runs.Run.{Run}
 use Rattle.components.specs.declared.bounds.Bounds.{Bounds}
 use Rattle.components.specs.Connected.{IsBlack, IsConnected}
-use Rattle.components.specs.Around.{bounds_of, widened}
-use Rattle.components.specs.Runs.{IsIn, run_at, first_of, behind, AreRuns, IsTouching, IsMarkedRun, IsSeen, GrowsRuns, IsTouchingAt, SpreadsOver}
-use Rattle.components.proofs.Paths.{itself, onwards}
+use Rattle.components.specs.Around.{IsSmallRun, bounds_of, widened}
+use Rattle.components.specs.Runs.{IsInRun, run_at, first_of, last_of, place_behind, AreRuns, IsTouching, IsMarkedRun, IsSeen, GrowsRuns, IsTouchingAt, SpreadsOver}
+use Rattle.components.proofs.Paths.{connected_itself, onwards}
 use Rattle.components.proofs.Bounding.{HasPlace, IsTouched, still_touched, within_wider}
+use Rattle.components.proofs.RowVisits.{read_run}
 use Rattle.components.proofs.Spreading.{IsWalking, IsStep, IsBlackRun, InRun, walks_on, walked, run_connected, touching_connected, near_touching}
 
 -- the place lies in a run that waits
 pub record IsWaiting (runs : List Run) (waiting : List ℕ) (p : Place) : Type 0 where
   pub index : ℕ
   pub listed : Contains waiting index
-  pub inside : IsIn (run_at runs index) p
+  pub inside : IsInRun (run_at runs index) p
 
 -- what holds while the component of a first run is walked
 pub record IsRunWalking (page : Page) (runs : List Run) (first : ℕ) (before now : List Bool) (waiting : List ℕ) (bounds : Bounds) : Type 0 where
@@ -32,23 +33,26 @@ pub record IsRunWalking (page : Page) (runs : List Run) (first : ℕ) (before no
   pub begun : IsMarkedRun now first
   pub touched : IsTouched (IsConnected page (first_of (run_at runs first))) bounds
 
-pub first_in : (page : Page) (runs : List Run) (i : ℕ) → AreRuns page runs → i < length runs → IsIn (run_at runs i) (first_of (run_at runs i))
-first_in page runs i are below = record { level = refl; left = omega arith; right = are.in_order.some i below }
+pub first_in_run : (page : Page) (runs : List Run) (i : ℕ) → AreRuns page runs → i < length runs → IsInRun (run_at runs i) (first_of (run_at runs i))
+first_in_run page runs i are below = record { level = refl; left = omega arith; right = are.in_order.some i below }
 
-in_run_of : (run : Run) (p : Place) → IsIn run p → InRun run.row run.x0 run.x1 p
+last_in_run : (page : Page) (runs : List Run) (i : ℕ) → AreRuns page runs → i < length runs → IsInRun (run_at runs i) (last_of (run_at runs i))
+last_in_run page runs i are below = let some = are.in_order.some i below in record { level = refl; left = omega (arith, some); right = omega (arith, some) }
+
+in_run_of : (run : Run) (p : Place) → IsInRun run p → InRun run.row run.x0 run.x1 p
 in_run_of run p in' = record { level = in'.level; left = in'.left; right = in'.right }
 
 black_run : (page : Page) (runs : List Run) (i : ℕ) → AreRuns page runs → i < length runs → IsBlackRun page (run_at runs i).row (run_at runs i).x0 (run_at runs i).x1
 black_run page runs i are below = record {
-  in_column = (are.blacks i (first_of (run_at runs i)) below (first_in page runs i are below)).in_column;
+  in_column = (are.blacks i (first_of (run_at runs i)) below (first_in_run page runs i are below)).in_column;
   blacks = λ x left right. are.blacks i (record { x = x; y = (run_at runs i).row }) below (record { level = refl; left = left; right = right });
 }
 
-pub same_run : (page : Page) (runs : List Run) (i : ℕ) → AreRuns page runs → i < length runs → (p q : Place) → IsIn (run_at runs i) p → IsIn (run_at runs i) q → IsConnected page p q
+pub same_run : (page : Page) (runs : List Run) (i : ℕ) → AreRuns page runs → i < length runs → (p q : Place) → IsInRun (run_at runs i) p → IsInRun (run_at runs i) q → IsConnected page p q
 same_run page runs i are below p q p_in q_in = run_connected page (run_at runs i).row (run_at runs i).x0 (run_at runs i).x1 (black_run page runs i are below) p q (in_run_of (run_at runs i) p p_in) (in_run_of (run_at runs i) q q_in)
 
 next_run : (page : Page) (runs : List Run) (i j : ℕ) → AreRuns page runs → i < length runs → j < length runs → IsTouching (run_at runs i) (run_at runs j)
-    → (p q : Place) → IsIn (run_at runs i) p → IsIn (run_at runs j) q → IsConnected page p q
+    → (p q : Place) → IsInRun (run_at runs i) p → IsInRun (run_at runs j) q → IsConnected page p q
 next_run page runs i j are below below2 touch p q p_in q_in =
     touching_connected page (run_at runs i).row (run_at runs i).x0 (run_at runs i).x1 (run_at runs j).row (run_at runs j).x0 (run_at runs j).x1
     (black_run page runs i are below) (black_run page runs j are below2) (are.in_order.some i below) (are.in_order.some j below2)
@@ -72,15 +76,18 @@ mark_cases marks s i m = elim (cases_order i s) [
 
 pub run_begins : (page : Page) (runs : List Run) (marks : List Bool) (start : ℕ) → AreRuns page runs → length marks ≡ length runs → start < length runs
     → ((p : Place) → IsConnected page (first_of (run_at runs start)) p → IsSeen runs marks p → ⊥)
-    → IsRunWalking page runs start marks (set marks start true) ([] ++ start ∷ []) (bounds_of (first_of (run_at runs start)))
+    → IsRunWalking page runs start marks (set marks start true) ([] ++ start ∷ []) (bounds_of (run_at runs start))
 run_begins page runs marks start are len below apart =
     let first = first_of (run_at runs start) in
-    let here : IsIn (run_at runs start) first = first_in page runs start are below in
+    let here : IsInRun (run_at runs start) first = first_in_run page runs start are below in
+    let last : Place = last_of (run_at runs start) in
+    let some = are.in_order.some start below in
     let in_table : start < length marks = omega (arith, len, below) in
     let black : IsBlack page first = are.blacks start first below here in
-    let self : IsConnected page first first = itself page first black in
-    let from_start : (p : Place) → IsIn (run_at runs start) p → IsConnected page first p = λ p p_in. same_run page runs start are below first p here p_in in
-    let at_start : (p : Place) (i : ℕ) → i ≡ start → IsIn (run_at runs i) p → IsIn (run_at runs start) p = λ p i same p_in. subst (λ (k : ℕ). IsIn (run_at runs k) p) same p_in in
+    let self : IsConnected page first first = connected_itself page first black in
+    let from_start : (p : Place) → IsInRun (run_at runs start) p → IsConnected page first p = λ p p_in. same_run page runs start are below first p here p_in in
+    let to_last : IsConnected page first last = from_start last (last_in_run page runs start are below) in
+    let at_start : (p : Place) (i : ℕ) → i ≡ start → IsInRun (run_at runs i) p → IsInRun (run_at runs start) p = λ p i same p_in. subst (λ (k : ℕ). IsInRun (run_at runs k) p) same p_in in
     record {
       len = length-set marks start true ∙ len;
       walking = record {
@@ -107,15 +114,14 @@ run_begins page runs marks start are len below apart =
       ];
       still = λ i m. mark_kept marks start i in_table m;
       begun = get_or-set_same marks start true false in_table;
-      touched = record { left = (first, self, refl); right = (first, self, refl); top = (first, self, refl); bottom = (first, self, refl) };
+      touched = record { left = (first, self, refl); right = (last, to_last, omega (arith, some)); top = (first, self, refl); bottom = (first, self, refl) };
     }
 
--- the sides with both ends of a run have all of the run
-run_within : (bounds : Bounds) (run : Run) (p : Place) → run.x0 < run.x1 → IsIn run p
-    → (let last : Place = record { x = run.x1 - 1; y = run.row } in HasPlace (widened (widened bounds (first_of run)) last) p)
-run_within bounds run p some p_in = record {
+-- the sides with a run have all of the run
+run_within : (bounds : Bounds) (run : Run) (p : Place) → IsInRun run p → HasPlace (widened bounds run) p
+run_within bounds run p p_in = record {
   from_left = omega (arith, p_in.left);
-  to_right = omega (arith, p_in.right, some);
+  to_right = omega (arith, p_in.right);
   from_top = omega (arith, p_in.level);
   to_bottom = omega (arith, p_in.level);
 }
@@ -126,12 +132,12 @@ place_is p q same_x same_y =
     ap (λ (x : ℕ). at x p.y) same_x ∙ ap (λ (y : ℕ). at q.x y) same_y
 
 -- a run that begins where another ends would go on with it
-apart : (page : Page) (runs : List Run) (i j : ℕ) → AreRuns page runs → i < j → j < length runs → (run_at runs j).row ≡ (run_at runs i).row → (run_at runs j).x0 ≤ (run_at runs i).x1 → ⊥
-apart page runs i j are less below level meets = elim (are.in_order.order i j less below) [
+runs_apart : (page : Page) (runs : List Run) (i j : ℕ) → AreRuns page runs → i < j → j < length runs → (run_at runs j).row ≡ (run_at runs i).row → (run_at runs j).x0 ≤ (run_at runs i).x1 → ⊥
+runs_apart page runs i j are less below level meets = elim (are.in_order.order i j less below) [
   | inl higher ↦ omega (arith, higher, level)
   | inr left ↦
-      let at : behind (run_at runs i) ≡ first_of (run_at runs j) = place_is (behind (run_at runs i)) (first_of (run_at runs j)) (omega (arith, left.1, meets)) (sym level) in
-      are.maximal i (omega (arith, less, below)) (subst (IsBlack page) (sym at) (are.blacks j (first_of (run_at runs j)) below (first_in page runs j are below)))
+      let at : place_behind (run_at runs i) ≡ first_of (run_at runs j) = place_is (place_behind (run_at runs i)) (first_of (run_at runs j)) (omega (arith, left.1, meets)) (sym level) in
+      are.maximal i (omega (arith, less, below)) (subst (IsBlack page) (sym at) (are.blacks j (first_of (run_at runs j)) below (first_in_run page runs j are below)))
 ]
 
 -- a run touches no other one of its row
@@ -140,18 +146,18 @@ same_row : (page : Page) (runs : List Run) (i j : ℕ) → AreRuns page runs →
 same_row page runs i j are below lt level touch = elim (cases_order j i) [
   | inl same ↦ same
   | inr other ↦ elim other [
-    | inl before ↦ absurd (apart page runs j i are before below (sym level) touch.left)
-    | inr after ↦ absurd (apart page runs i j are after lt level touch.right)
+    | inl before ↦ absurd (runs_apart page runs j i are before below (sym level) touch.left)
+    | inr after ↦ absurd (runs_apart page runs i j are after lt level touch.right)
   ]
 ]
 
 -- a place lies in one run
-pub one_run : (page : Page) (runs : List Run) (i j : ℕ) (p : Place) → AreRuns page runs → i < length runs → j < length runs → IsIn (run_at runs i) p → IsIn (run_at runs j) p → i ≡ j
+pub one_run : (page : Page) (runs : List Run) (i j : ℕ) (p : Place) → AreRuns page runs → i < length runs → j < length runs → IsInRun (run_at runs i) p → IsInRun (run_at runs j) p → i ≡ j
 one_run page runs i j p are i_below j_below in_i in_j = elim (cases_order i j) [
   | inl same ↦ same
   | inr other ↦ elim other [
-    | inl before ↦ absurd (apart page runs i j are before j_below (sym in_j.level ∙ in_i.level) (omega (arith, in_j.left, in_i.right)))
-    | inr after ↦ absurd (apart page runs j i are after i_below (sym in_i.level ∙ in_j.level) (omega (arith, in_i.left, in_j.right)))
+    | inl before ↦ absurd (runs_apart page runs i j are before j_below (sym in_j.level ∙ in_i.level) (omega (arith, in_j.left, in_i.right)))
+    | inr after ↦ absurd (runs_apart page runs j i are after i_below (sym in_i.level ∙ in_j.level) (omega (arith, in_i.left, in_j.right)))
   ]
 ]
 
@@ -176,13 +182,12 @@ pub run_goes_on : (page : Page) (runs : List Run) (begin : ℕ) (before now mid 
     → ((j : ℕ) → j < length runs → (run_at runs j).row + 1 ≡ (run_at runs i).row → IsTouching (run_at runs i) (run_at runs j) → IsMarkedRun mid j)
     → GrowsRuns (IsTouchingAt runs (run_at runs i)) mid next between waits
     → ((j : ℕ) → j < length runs → (run_at runs j).row ≡ (run_at runs i).row + 1 → IsTouching (run_at runs i) (run_at runs j) → IsMarkedRun next j)
-    → (let last : Place = record { x = (run_at runs i).x1 - 1; y = (run_at runs i).row } in
-    IsRunWalking page runs begin before next waits (widened (widened bounds (first_of (run_at runs i))) last))
+    → IsRunWalking page runs begin before next waits (widened bounds (run_at runs i))
 run_goes_on page runs begin before now mid next waiting left between waits bounds i are kept popped above gains_above under gains_under =
     let start : Place = first_of (run_at runs begin) in
     let run = run_at runs i in
     let grows = runs_grew (IsTouchingAt runs run) now mid next left between waits above under in
-    let last : Place = record { x = run.x1 - 1; y = run.row } in
+    let last = last_of run in
     let here : Contains waiting i = subst (λ (l : List ℕ). Contains l i) (sym popped) (Contains-push left i) in
     let below : i < length runs = kept.listed i here in
     let some = are.in_order.some i below in
@@ -193,15 +198,15 @@ run_goes_on page runs begin before now mid next waiting left between waits bound
         | inr lower ↦ gains_under j lt (omega (arith, lower, touch.below)) touch
       ]
     ] in
-    let first_there : IsIn run (first_of run) = first_in page runs i are below in
-    let last_there : IsIn run last = record { level = refl; left = omega (arith, some); right = omega (arith, some) } in
-    let to_run : (p : Place) → IsIn run p → IsConnected page start p = λ p p_in. kept.walking.waits p (record { index = i; listed = here; inside = p_in }) in
+    let first_there : IsInRun run (first_of run) = first_in_run page runs i are below in
+    let last_there : IsInRun run last = last_in_run page runs i are below in
+    let to_run : (p : Place) → IsInRun run p → IsConnected page start p = λ p p_in. kept.walking.waits p (record { index = i; listed = here; inside = p_in }) in
     let before_pop : (k : ℕ) → Contains left k → Contains waiting k = λ k w. subst (λ (l : List ℕ). Contains l k) (sym popped) (Contains-append_left left (i ∷ []) k w) in
-    let step : IsStep page start (IsSeen runs now) (IsSeen runs next) (IsWaiting runs waiting) (IsWaiting runs waits) (HasPlace bounds) (HasPlace (widened (widened bounds (first_of run)) last)) (IsIn run) = record {
+    let step : IsStep page start (IsSeen runs now) (IsSeen runs next) (IsWaiting runs waiting) (IsWaiting runs waits) (HasPlace bounds) (HasPlace (widened bounds run)) (IsInRun run) = record {
       keeps = λ p seen. record { index = seen.index; below = seen.below; mark = grows.keeps seen.index seen.mark; inside = seen.inside };
       splits = λ p w. elim (Contains-push_cases left i w.index (subst (λ (l : List ℕ). Contains l w.index) popped w.listed)) [
         | inl still ↦ inl (record { index = w.index; listed = grows.still w.index still; inside = w.inside })
-        | inr same ↦ inr (subst (λ (k : ℕ). IsIn (run_at runs k) p) (sym same) w.inside)
+        | inr same ↦ inr (subst (λ (k : ℕ). IsInRun (run_at runs k) p) (sym same) w.inside)
       ];
       added = λ p seen. elim (grows.added seen.index seen.mark) [
         | inl was ↦ inl (record { index = seen.index; below = seen.below; mark = was; inside = seen.inside })
@@ -215,17 +220,17 @@ run_goes_on page runs begin before now mid next waiting left between waits bound
           let there = are.every q black.in_column black in
           let touch = near_touching run.row run.x0 run.x1 (run_at runs there.0).row (run_at runs there.0).x0 (run_at runs there.0).x1 p q (in_run_of run p p_in) (in_run_of (run_at runs there.0) q there.2) near in
           record { index = there.0; below = there.1; mark = gains there.0 there.1 (record { above = touch.above; below = touch.below; left = touch.left; right = touch.right }); inside = there.2 };
-      still = λ p has. within_wider (widened bounds (first_of run)) last p (within_wider bounds (first_of run) p has);
-      more = λ p p_in. run_within bounds run p some p_in;
+      still = λ p has. within_wider bounds run p has;
+      more = λ p p_in. run_within bounds run p p_in;
     } in
     record {
       len = grows.len ∙ kept.len;
-      walking = walks_on page start (IsSeen runs before) (IsSeen runs now) (IsSeen runs next) (IsWaiting runs waiting) (IsWaiting runs waits) (HasPlace bounds) (HasPlace (widened (widened bounds (first_of run)) last)) (IsIn run) kept.walking step;
+      walking = walks_on page start (IsSeen runs before) (IsSeen runs now) (IsSeen runs next) (IsWaiting runs waiting) (IsWaiting runs waits) (HasPlace bounds) (HasPlace (widened bounds run)) (IsInRun run) kept.walking step;
       listed = λ k w. elim (grows.fresh k w) [ inl old ↦ kept.listed k (before_pop k old) | inr t ↦ t.below ];
       visited = grows.listed (λ k w. kept.visited k (before_pop k w));
       still = λ k m. grows.keeps k (kept.still k m);
       begun = grows.keeps begin kept.begun;
-      touched = still_touched (IsConnected page start) (widened bounds (first_of run)) last (to_run last last_there) (still_touched (IsConnected page start) bounds (first_of run) (to_run (first_of run) first_there) kept.touched);
+      touched = still_touched (IsConnected page start) bounds run some (to_run (first_of run) first_there) (to_run last last_there) kept.touched;
     }
 
 pub run_ends : (page : Page) (runs : List Run) (begin : ℕ) (before now : List Bool) (waiting : List ℕ) (bounds : Bounds)
@@ -278,28 +283,27 @@ grew_wider IsNew IsWider old new waiting waits wider grows = record {
   same = grows.same;
 }
 
-pub record IsSmallRun (run : Run) : Type 0 where
-  pub row : run.row < 8192
-  pub left : run.x0 < 8192
-  pub right : run.x1 ≤ 8192
-  pub some : run.x0 < run.x1
-
-pub small_run : (page : Page) (runs : List Run) (i : ℕ) → AreRuns page runs → IsPageSize page.width page.height → i < length runs → IsSmallRun (run_at runs i)
+small_run : (page : Page) (runs : List Run) (i : ℕ) → AreRuns page runs → IsPageSize page.width page.height → i < length runs → IsSmallRun (run_at runs i)
 small_run page runs i are size below =
-    let run = run_at runs i in
-    let some = are.in_order.some i below in
-    let first = are.blacks i (first_of run) below (first_in page runs i are below) in
-    let last = are.blacks i (record { x = run.x1 - 1; y = run.row }) below (record { level = refl; left = omega (arith, some); right = omega (arith, some) }) in
-    record { row = omega (arith, first.in_column, size.height_bound); left = omega (arith, first.in_row, size.width_bound); right = omega (arith, last.in_row, size.width_bound); some = some }
+    let last = are.blacks i (last_of (run_at runs i)) below (last_in_run page runs i are below) in
+    record { row = omega (arith, last.in_column, size.height_bound); right = omega (arith, last.in_row, size.width_bound); some = are.in_order.some i below }
 
-pub popped_run : (page : Page) (runs : List Run) (begin : ℕ) (before now : List Bool) (waiting left : List ℕ) (bounds : Bounds) (i : ℕ)
+-- what is known of a run that is read from the table
+pub record IsReadRun (runs : List Run) (i : ℕ) (run : Run) : Type 0 where
+  pub below : i < length runs
+  pub read : run ≡ run_at runs i
+  pub small : IsSmallRun run
+
+pub run_read : (page : Page) (runs : List Run) (i : ℕ) (run : Run) → AreRuns page runs → IsPageSize page.width page.height → i < length runs → run ≡ get_or runs i run → IsReadRun runs i run
+run_read page runs i run are size below is =
+    let read = read_run runs i run is below in
+    record { below = below; read = read; small = subst IsSmallRun (sym read) (small_run page runs i are size below) }
+
+pub popped_below : (page : Page) (runs : List Run) (begin : ℕ) (before now : List Bool) (waiting left : List ℕ) (bounds : Bounds) (i : ℕ)
     → IsRunWalking page runs begin before now waiting bounds → waiting ≡ left ++ i ∷ [] → i < length runs
-popped_run page runs begin before now waiting left bounds i kept popped = kept.listed i (subst (λ (l : List ℕ). Contains l i) (sym popped) (Contains-push left i))
+popped_below page runs begin before now waiting left bounds i kept popped = kept.listed i (subst (λ (l : List ℕ). Contains l i) (sym popped) (Contains-push left i))
 
 pub no_run_waits : (waiting : List ℕ) (n m : ℕ) (r : Option ℕ) → n ≡ length waiting
     → MatchOption r ((n ≡ 0) × (m ≡ 0)) (λ _. m + 1 ≡ n) → ((i : ℕ) → r ≡ Some i → ⊥) → length waiting ≡ 0
 no_run_waits waiting n m None len cases none = omega (arith, cases.0, len)
 no_run_waits waiting n m (Some i) len cases none = absurd (none i refl)
-
-pub read_small : (page : Page) (runs : List Run) (i : ℕ) (run : Run) → AreRuns page runs → IsPageSize page.width page.height → i < length runs → run ≡ run_at runs i → IsSmallRun run
-read_small page runs i run are size below read = subst IsSmallRun (sym read) (small_run page runs i are size below)

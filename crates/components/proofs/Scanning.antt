@@ -15,20 +15,20 @@ use Rattle.components.specs.declared.row_runs.Run.{Run}
 use Rattle.components.specs.Runs.{run_at, first_of, AreRuns, IsMarkedRun, IsSeen, SpreadsOver}
 use Rattle.components.specs.Scanning.{IsScanned}
 use Rattle.components.specs.Kept.{IsKeptBoxes}
-use Rattle.components.proofs.Paths.{itself, onwards, back, at_end}
-use Rattle.components.proofs.RunWalk.{one_run, first_in}
+use Rattle.components.proofs.Paths.{connected_itself, onwards, connected_back, end_is_black}
+use Rattle.components.proofs.RunWalk.{one_run, first_in_run}
 
 -- the box of one place is the box of each place that is connected with it
 pub box_moves : (page : Page) (p q : Place) (box : Rect) → IsConnected page p q → IsBoxOf page q box → IsBoxOf page p box
 box_moves page p q box c is_box = record {
-  has = λ r d. is_box.has r (onwards page q p r (back page p q c) d);
+  round = λ r d. is_box.round r (onwards page q p r (connected_back page p q c) d);
   least = λ other holds. is_box.least other (λ r d. holds r (onwards page p q r c d));
 }
 
 -- two boxes of one component are as large
 same_large : (page : Page) (p : Place) (box other : Rect) → IsBoxOf page p box → IsBoxOf page p other → IsLarge box → IsLarge other
 same_large page p box other is_box is_other large =
-    let outer : Encloses other box = is_box.least other is_other.has in
+    let outer : Encloses other box = is_box.least other is_other.round in
     elim large [
       | inl wide ↦ inl (omega (arith, outer.left, outer.right, wide))
       | inr high ↦ inr (omega (arith, outer.top, outer.bottom, high))
@@ -39,16 +39,16 @@ pub apart_from : (page : Page) (runs : List Run) (marks : List Bool) (boxes : Li
     → (p : Place) → IsConnected page (first_of (run_at runs i)) p → IsSeen runs marks p → ⊥
 apart_from page runs marks boxes i are scanned below new p c seen =
     let first = first_of (run_at runs i) in
-    let there = scanned.closed p first seen (back page first p c) in
-    let same : there.index ≡ i = one_run page runs there.index i first are there.below below there.inside (first_in page runs i are below) in
+    let there = scanned.closed p first seen (connected_back page first p c) in
+    let same : there.index ≡ i = one_run page runs there.index i first are there.below below there.inside (first_in_run page runs i are below) in
     new (subst (IsMarkedRun marks) same there.mark)
 
 pub unseen_first : (page : Page) (runs : List Run) (marks : List Bool) (i : ℕ) → AreRuns page runs → i < length runs → (IsMarkedRun marks i → ⊥) → IsSeen runs marks (first_of (run_at runs i)) → ⊥
 unseen_first page runs marks i are below new there =
-    new (subst (IsMarkedRun marks) (one_run page runs there.index i (first_of (run_at runs i)) are there.below below there.inside (first_in page runs i are below)) there.mark)
+    new (subst (IsMarkedRun marks) (one_run page runs there.index i (first_of (run_at runs i)) are there.below below there.inside (first_in_run page runs i are below)) there.mark)
 
 pub first_black : (page : Page) (runs : List Run) (i : ℕ) → AreRuns page runs → i < length runs → IsBlack page (first_of (run_at runs i))
-first_black page runs i are below = are.blacks i (first_of (run_at runs i)) below (first_in page runs i are below)
+first_black page runs i are below = are.blacks i (first_of (run_at runs i)) below (first_in_run page runs i are below)
 
 zip_push : {A B : Type 0} (R : A → B → Type 0) (xs : List A) (ys : List B) (x : A) (y : B) → AllZip R xs ys → R x y → AllZip R (xs ++ x ∷ []) (ys ++ y ∷ [])
 zip_push R [] [] x y zip here = (here, tt)
@@ -63,7 +63,7 @@ module _ (page : Page) (old new : Place → Type 0) (boxes : List Rect) (start :
     (scanned : IsScanned page old boxes) (black : IsBlack page start) (unseen : old start → ⊥)
     (marks : SpreadsOver page start old new) (is_box : IsBoxOf page start found) where
   blacks_still : (p : Place) → new p → IsBlack page p
-  blacks_still p m = elim (marks.only p m) [ inl was ↦ scanned.blacks p was | inr c ↦ at_end page start p c ]
+  blacks_still p m = elim (marks.only p m) [ inl was ↦ scanned.blacks p was | inr c ↦ end_is_black page start p c ]
 
   closed_still : (p q : Place) → new p → IsConnected page p q → new q
   closed_still p q m c = elim (marks.only p m) [
@@ -94,10 +94,10 @@ module _ (page : Page) (old new : Place → Type 0) (boxes : List Rect) (start :
     places = scanned.places ++ start ∷ [];
     kept = zip_push (IsKept page) scanned.places boxes start found scanned.kept (record { black = black; is_box = is_box; large = large });
     apart = all_pairs_push (λ p q. IsConnected page p q → ⊥) scanned.places start scanned.apart (λ k d lt c. unseen (scanned.closed (get_or scanned.places k d) start (scanned.marked k d lt) c));
-    marked = All-push new scanned.places start (All-weaker old new marks.keeps scanned.places scanned.marked) (marks.gains start (itself page start black));
+    marked = All-push new scanned.places start (All-weaker old new marks.keeps scanned.places scanned.marked) (marks.gains start (connected_itself page start black));
     every = λ p box m kept. elim (marks.only p m) [
       | inl was ↦ any_more (IsConnected page p) scanned.places start (scanned.every p box was kept)
-      | inr c ↦ Any-push (IsConnected page p) scanned.places start (back page start p c)
+      | inr c ↦ Any-push (IsConnected page p) scanned.places start (connected_back page start p c)
     ];
   }
 

@@ -56,15 +56,15 @@ tied r s a b =
 head_first : (x : Rect) (xs : List Rect) → IsSorted compare_boxes (x ∷ xs) → (k : ℕ) (d : Rect) → k < length (x ∷ xs) → is_lt (compare_boxes (get_or (x ∷ xs) k d) x) ≡ false
 head_first x xs sorted k d lt = sorted_far (λ r s. is_lt (compare_boxes r s)) less_weak (x ∷ xs) sorted 0 k d (omega arith) lt
 
-sum_more : (f : Rect → ℕ) (x : Rect) (xs : List Rect) → sum_by f (x ∷ xs) ≡ f x + sum_by f xs
-sum_more f x xs = sum_by-cons f x xs
+sum_by_more : (f : Rect → ℕ) (x : Rect) (xs : List Rect) → sum_by f (x ∷ xs) ≡ f x + sum_by f xs
+sum_by_more f x xs = sum_by-cons f x xs
 
 none_counted : (p : Rect → Bool) (xs : List Rect) → ((k : ℕ) (d : Rect) → k < length xs → p (get_or xs k d) ≡ false) → sum_by (λ r. cond (p r) 1 0) xs ≡ 0
 none_counted p [] none = refl
 none_counted p (x ∷ xs) none =
     let weight : Bool → ℕ = λ b. cond b 1 0 in
     let here : weight (p x) ≡ 0 = ap weight (none 0 x (omega arith)) in
-    omega (arith, here, sum_more (λ r. weight (p r)) x xs, none_counted p xs (λ k d lt. none (suc k) d (omega (arith, lt))))
+    omega (arith, here, sum_by_more (λ r. weight (p r)) x xs, none_counted p xs (λ k d lt. none (suc k) d (omega (arith, lt))))
 
 weightless : (b : Bool) → (let n : ℕ = cond b 1 0 in n ≡ 0) → b ≡ false
 weightless true e = absurd (omega (arith, e))
@@ -75,7 +75,7 @@ not_before : (x y : Rect) (xs ys : List Rect) → IsSorted compare_boxes (y ∷ 
 not_before x y xs ys sorted same =
     let weight : Bool → ℕ = λ b. cond b 1 0 in
     let none : sum_by (λ r. weight (is_lt (compare_boxes r y))) (y ∷ ys) ≡ 0 = none_counted (λ r. is_lt (compare_boxes r y)) (y ∷ ys) (head_first y ys sorted) in
-    let zero_weight : weight (is_lt (compare_boxes x y)) ≡ 0 = omega (arith, none, same (λ r. weight (is_lt (compare_boxes r y))), sum_more (λ r. weight (is_lt (compare_boxes r y))) x xs) in
+    let zero_weight : weight (is_lt (compare_boxes x y)) ≡ 0 = omega (arith, none, same (λ r. weight (is_lt (compare_boxes r y))), sum_by_more (λ r. weight (is_lt (compare_boxes r y))) x xs) in
     weightless (is_lt (compare_boxes x y)) zero_weight
 
 rest_sorted : (x : Rect) (xs : List Rect) → IsSorted compare_boxes (x ∷ xs) → IsSorted compare_boxes xs
@@ -86,10 +86,10 @@ rest_sorted x xs sorted k d low high =
 pub sorted_same : (xs ys : List Rect) → ((r s : Rect) → HasSides r s.x0 s.y0 s.x1 s.y1 → r ≡ s) → IsSorted compare_boxes xs → IsSorted compare_boxes ys
     → ((f : Rect → ℕ) → sum_by f xs ≡ sum_by f ys) → xs ≡ ys
 sorted_same [] [] sides sorted sorted2 same = refl
-sorted_same [] (y ∷ ys) sides sorted sorted2 same = absurd (omega (arith, same (λ r. 1), sum_more (λ r. 1) y ys))
-sorted_same (x ∷ xs) [] sides sorted sorted2 same = absurd (omega (arith, same (λ r. 1), sum_more (λ r. 1) x xs))
+sorted_same [] (y ∷ ys) sides sorted sorted2 same = absurd (omega (arith, same (λ r. 1), sum_by_more (λ r. 1) y ys))
+sorted_same (x ∷ xs) [] sides sorted sorted2 same = absurd (omega (arith, same (λ r. 1), sum_by_more (λ r. 1) x xs))
 sorted_same (x ∷ xs) (y ∷ ys) sides sorted sorted2 same =
     let first : x ≡ y = sides x y (tied x y (not_before x y xs ys sorted2 same) (not_before y x ys xs sorted (λ f. sym (same f)))) in
     let rest : xs ≡ ys = sorted_same xs ys sides (rest_sorted x xs sorted) (rest_sorted y ys sorted2)
-    (λ f. let here : f x ≡ f y = ap f first in omega (arith, same f, here, sum_more f x xs, sum_more f y ys)) in
+    (λ f. let here : f x ≡ f y = ap f first in omega (arith, same f, here, sum_by_more f x xs, sum_by_more f y ys)) in
     cc

@@ -3,12 +3,12 @@ use Rattle.std.proofs.Common.{◌≡◌, ◌<◌, ◌≤◌, ℕ, zero, suc, ◌
 use Rattle.std.proofs.lemmas.Bool.{cases_lt}
 use Rattle.page_runs.specs.Page.{Page}
 use Rattle.components.specs.declared.place.Place.{Place}
-use Rattle.components.specs.Connected.{IsBlack, IsNear, IsConnected}
-use Rattle.components.proofs.Paths.{itself, one_step, onwards, back, spreads}
+use Rattle.components.specs.Connected.{IsBlack, AreNeighbours, IsConnected}
+use Rattle.components.proofs.Paths.{connected_itself, one_step_path, onwards, connected_back, spreads}
 
 -- each black place near this one has its mark
 abbrev pub IsClosedAt : Page → (Place → Type 0) → Place → Type 0
-IsClosedAt page now p = (q : Place) → IsBlack page q → IsNear p q → now q
+IsClosedAt page now p = (q : Place) → IsBlack page q → AreNeighbours p q → now q
 
 -- what holds while a component is walked; the sets are the marks before and now, the places that wait, and those that are done with
 pub record IsWalking (page : Page) (start : Place) (before now waiting Done : Place → Type 0) : Type 0 where
@@ -72,13 +72,13 @@ along page y x0 x1 run x zero left right =
     let p : Place = record { x = x; y = y } in
     let at : ℕ → Place = λ k. record { x = k; y = y } in
     let e : x ≡ x + 0 = omega arith in
-    subst (λ (k : ℕ). IsConnected page p (at k)) e (itself page p (run.blacks x left (omega (arith, right))))
+    subst (λ (k : ℕ). IsConnected page p (at k)) e (connected_itself page p (run.blacks x left (omega (arith, right))))
 along page y x0 x1 run x (suc n) left right =
     let p : Place = record { x = x; y = y } in
     let at : ℕ → Place = λ k. record { x = k; y = y } in
     let before = along page y x0 x1 run x n left (omega (arith, right)) in
     let e : x + n + 1 ≡ x + suc n = omega arith in
-    let step : IsConnected page (at (x + n)) (at (x + n + 1)) = one_step page (at (x + n)) (at (x + n + 1)) (run.blacks (x + n) (omega (arith, left)) (omega (arith, right))) (run.blacks (x + n + 1) (omega (arith, left)) (omega (arith, right)))
+    let step : IsConnected page (at (x + n)) (at (x + n + 1)) = one_step_path page (at (x + n)) (at (x + n + 1)) (run.blacks (x + n) (omega (arith, left)) (omega (arith, right))) (run.blacks (x + n + 1) (omega (arith, left)) (omega (arith, right)))
     (record { left = omega arith; right = omega arith; above = omega arith; below = omega arith }) in
     onwards page p (at (x + n)) (at (x + suc n)) before (subst (λ (k : ℕ). IsConnected page (at (x + n)) (at k)) e step)
 
@@ -97,7 +97,7 @@ in_run page y x0 x1 run p q p_in q_in order =
 pub run_connected : (page : Page) (y x0 x1 : ℕ) → IsBlackRun page y x0 x1 → (p q : Place) → InRun y x0 x1 p → InRun y x0 x1 q → IsConnected page p q
 run_connected page y x0 x1 run p q p_in q_in = elim (cases_lt p.x q.x) [
   | inl less ↦ in_run page y x0 x1 run p q p_in q_in (omega arith)
-  | inr not_less ↦ back page q p (in_run page y x0 x1 run q p q_in p_in not_less)
+  | inr not_less ↦ connected_back page q p (in_run page y x0 x1 run q p q_in p_in not_less)
 ]
 
 -- two runs in the same row or the next touch, corners included: a place of the one is near a place of the other
@@ -114,12 +114,12 @@ touching_connected page y x0 x1 v u0 u1 run other some some2 touch p q p_in q_in
     let t : Place = record { x = max u0 (x0 - 1); y = v } in
     let s_in : InRun y x0 x1 s = record { level = refl; left = omega arith; right = omega arith } in
     let t_in : InRun v u0 u1 t = record { level = refl; left = omega arith; right = omega arith } in
-    let near : IsNear s t = record { left = omega arith; right = omega arith; above = touch.above; below = touch.below } in
-    let across : IsConnected page s t = one_step page s t (run.blacks s.x s_in.left s_in.right) (other.blacks t.x t_in.left t_in.right) near in
+    let near : AreNeighbours s t = record { left = omega arith; right = omega arith; above = touch.above; below = touch.below } in
+    let across : IsConnected page s t = one_step_path page s t (run.blacks s.x s_in.left s_in.right) (other.blacks t.x t_in.left t_in.right) near in
     onwards page p s q (run_connected page y x0 x1 run p s p_in s_in) (onwards page s t q across (run_connected page v u0 u1 other t q t_in q_in))
 
 -- the other way round: near places lie in runs that touch
-pub near_touching : (y x0 x1 v u0 u1 : ℕ) (p q : Place) → InRun y x0 x1 p → InRun v u0 u1 q → IsNear p q → AreTouching y x0 x1 v u0 u1
+pub near_touching : (y x0 x1 v u0 u1 : ℕ) (p q : Place) → InRun y x0 x1 p → InRun v u0 u1 q → AreNeighbours p q → AreTouching y x0 x1 v u0 u1
 near_touching y x0 x1 v u0 u1 p q p_in q_in near = record {
   above = omega (arith, near.above, p_in.level, q_in.level);
   below = omega (arith, near.below, p_in.level, q_in.level);

@@ -66,14 +66,14 @@ module _ {A B : Type 0} (K : A → B → Type 0) (E : A → A → Type 0)
         record { before = q ∷ s.before; q = s.q; after = s.after; left = c ∷ s.left; c = s.c; right = s.right; is_places = ap (λ (l : List A). q ∷ l) s.is_places; is_boxes = ap (λ (l : List B). c ∷ l) s.is_boxes; here = s.here; fits = s.fits; rest = (zip.0, s.rest) }
   ]
 
-  pub same_boxes : (ps : List A) (bs : List B) (qs : List A) (cs : List B) → AllZip K ps bs → AllZip K qs cs → Apart E ps → Apart E qs
+  pub boxes_rearranged : (ps : List A) (bs : List B) (qs : List A) (cs : List B) → AllZip K ps bs → AllZip K qs cs → Apart E ps → Apart E qs
       → Each (λ p. Some_of (E p) qs) ps → Each (λ q. Some_of (E q) ps) qs → IsPermutation bs cs
-  same_boxes [] [] [] [] zip zip2 apart apart2 cover cover2 = IsPermutation-refl []
-  same_boxes [] (b ∷ bs) qs cs zip zip2 apart apart2 cover cover2 = absurd zip
-  same_boxes [] [] (q ∷ qs) cs zip zip2 apart apart2 cover cover2 = absurd cover2.0
-  same_boxes [] [] [] (c ∷ cs) zip zip2 apart apart2 cover cover2 = absurd zip2
-  same_boxes (p ∷ ps) [] qs cs zip zip2 apart apart2 cover cover2 = absurd zip
-  same_boxes (p ∷ ps) (b ∷ bs) qs cs zip zip2 apart apart2 cover cover2 =
+  boxes_rearranged [] [] [] [] zip zip2 apart apart2 cover cover2 = IsPermutation-refl []
+  boxes_rearranged [] (b ∷ bs) qs cs zip zip2 apart apart2 cover cover2 = absurd zip
+  boxes_rearranged [] [] (q ∷ qs) cs zip zip2 apart apart2 cover cover2 = absurd cover2.0
+  boxes_rearranged [] [] [] (c ∷ cs) zip zip2 apart apart2 cover cover2 = absurd zip2
+  boxes_rearranged (p ∷ ps) [] qs cs zip zip2 apart apart2 cover cover2 = absurd zip
+  boxes_rearranged (p ∷ ps) (b ∷ bs) qs cs zip zip2 apart apart2 cover cover2 =
       let s = split (E p) qs cs zip2 cover.0 in
       let others = s.before ++ s.after in
       let apart3 = subst (Apart E) s.is_places apart2 in
@@ -84,7 +84,7 @@ module _ {A B : Type 0} (K : A → B → Type 0) (E : A → A → Type 0)
       let second : Each (λ q. Some_of (E q) ps) others =
       each_from (λ r. E s.q r → ⊥) (λ r. Some_of (E r) (p ∷ ps)) (λ r. Some_of (E r) ps)
       (λ r not some. some_without (E r) [] p ps (λ e. not (back r s.q (onwards r p s.q e s.here))) some) others (apart_of s.before s.q s.after apart3) (each_without (λ q. Some_of (E q) (p ∷ ps)) s.before s.q s.after cover3) in
-      let rest = same_boxes ps bs others (s.left ++ s.right) zip.1 s.rest apart.1 (apart_without s.before s.q s.after apart3) first second in
+      let rest = boxes_rearranged ps bs others (s.left ++ s.right) zip.1 s.rest apart.1 (apart_without s.before s.q s.after apart3) first second in
       let ahead : IsPermutation (b ∷ bs) (s.c ∷ (s.left ++ s.right)) = subst (λ (d : B). IsPermutation (b ∷ bs) (d ∷ (s.left ++ s.right))) (one p s.q b s.c zip.0 s.fits s.here) (IsPermutation-cons b bs (s.left ++ s.right) rest) in
       let into : IsPermutation (s.c ∷ (s.left ++ s.right)) (s.left ++ s.c ∷ s.right) = IsPermutation-sym (s.left ++ s.c ∷ s.right) (s.c ∷ (s.left ++ s.right)) (IsPermutation-middle s.left s.c s.right) in
       subst (IsPermutation (b ∷ bs)) (sym s.is_boxes) (IsPermutation-trans (b ∷ bs) (s.c ∷ (s.left ++ s.right)) (s.left ++ s.c ∷ s.right) ahead into)

@@ -1,12 +1,19 @@
--- The sides round some places.
-use Rattle.std.specs.Prelude.{◌+◌, min, max}
-use Rattle.components.specs.declared.place.Place.{Place}
+-- The sides round some runs.
+use Rattle.std.specs.Prelude.{◌+◌, ◌<◌, ◌≤◌, min, max}
+use Rattle.layout_limits.specs.declared.TheConstants.{MAX_SIDE}
+use Rattle.components.specs.declared.row_runs.Run.{Run}
 use Rattle.components.specs.declared.bounds.Bounds.{Bounds}
 
--- the sides round this place alone
-abbrev pub bounds_of : Place → Bounds
-bounds_of p = record { x0 = p.x; y0 = p.y; x1 = p.x + 1; y1 = p.y + 1 }
+-- the run has a place, and lies on a page
+pub record IsSmallRun (run : Run) : Type 0 where
+  pub row : run.row < MAX_SIDE
+  pub right : run.x1 ≤ MAX_SIDE
+  pub some : run.x0 < run.x1
 
--- the sides round what was there and this place
-abbrev pub widened : Bounds → Place → Bounds
-widened b p = record { x0 = min b.x0 p.x; y0 = min b.y0 p.y; x1 = max b.x1 (p.x + 1); y1 = max b.y1 (p.y + 1) }
+-- the sides round this run alone
+abbrev pub bounds_of : Run → Bounds
+bounds_of run = record { x0 = run.x0; y0 = run.row; x1 = run.x1; y1 = run.row + 1 }
+
+-- the sides round what was there and this run
+abbrev pub widened : Bounds → Run → Bounds
+widened b run = record { x0 = min b.x0 run.x0; y0 = min b.y0 run.row; x1 = max b.x1 run.x1; y1 = max b.y1 (run.row + 1) }

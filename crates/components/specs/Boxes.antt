@@ -3,18 +3,22 @@ use Rattle.std.specs.Prelude.{◌<◌, ◌⊎◌, List, Any}
 use Rattle.std.specs.List.{AllZip, AllPairs}
 use Rattle.page_runs.specs.Page.{Page}
 use Rattle.layout_geom.specs.declared.rect.Rect.{Rect}
-use Rattle.layout_geom.specs.Rectangles.{width_of, height_of, HasPixel, Encloses}
+use Rattle.layout_geom.specs.Rectangles.{width_of, height_of, HasPixel, IsLeastRect}
 use Rattle.components.specs.declared.place.Place.{Place}
+use Rattle.components.specs.declared.scan.TheConstants.{MAX_NOISE}
 use Rattle.components.specs.Connected.{IsBlack, IsConnected}
 
--- the least rectangle that has every place connected with this one
-pub record IsBoxOf (page : Page) (p : Place) (box : Rect) : Type 0 where
-  pub has : (q : Place) → IsConnected page p q → HasPixel box q.x q.y
-  pub least : (other : Rect) → ((q : Place) → IsConnected page p q → HasPixel other q.x q.y) → Encloses other box
+-- the rectangle has every place connected with this one
+abbrev pub HasComponent : Page → Place → Rect → Type 0
+HasComponent page p box = (q : Place) → IsConnected page p q → HasPixel box q.x q.y
 
--- more than 2 wide, or more than 2 high; what is smaller is noise
+-- the least rectangle round the component of this place
+abbrev pub IsBoxOf : Page → Place → Rect → Type 0
+IsBoxOf page p box = IsLeastRect (HasComponent page p) box
+
+-- wider or higher than noise
 abbrev pub IsLarge : Rect → Type 0
-IsLarge box = (2 < width_of box) ⊎ (2 < height_of box)
+IsLarge box = (MAX_NOISE < width_of box) ⊎ (MAX_NOISE < height_of box)
 
 -- the place is of a component with this box, which is kept
 pub record IsKept (page : Page) (p : Place) (box : Rect) : Type 0 where

@@ -1,12 +1,13 @@
 -- The maximal runs of black places of a page, and the marks of those that were visited.
-use Rattle.std.specs.Prelude.{◌≡◌, ◌<◌, ◌≤◌, ◌⊎◌, ℕ, ◌+◌, ◌*◌, Bool, true, false, not, List, length, slice_index, slice_index_or, count_by, Contains}
+use Rattle.std.specs.Prelude.{◌≡◌, ◌<◌, ◌≤◌, ◌⊎◌, ℕ, ◌+◌, ◌-◌, ◌*◌, Bool, true, false, not}
+use Rattle.std.specs.Prelude.{List, length, slice_index, slice_index_or, count_by, Contains}
 use Rattle.page_runs.specs.Page.{Page, pixel}
 use Rattle.components.specs.declared.place.Place.{Place}
 use Rattle.components.specs.declared.row_runs.Run.{Run}
 use Rattle.components.specs.Connected.{IsBlack, IsConnected}
 
 -- the place lies in the run
-pub record IsIn (run : Run) (p : Place) : Type 0 where
+pub record IsInRun (run : Run) (p : Place) : Type 0 where
   pub level : p.y ≡ run.row
   pub left : run.x0 ≤ p.x
   pub right : p.x < run.x1
@@ -22,26 +23,30 @@ run_at runs i = slice_index_or runs i no_run
 abbrev pub first_of : Run → Place
 first_of run = record { x = run.x0; y = run.row }
 
+-- the rightmost place of the run
+abbrev pub last_of : Run → Place
+last_of run = record { x = run.x1 - 1; y = run.row }
+
 -- the place right of the run
-abbrev pub behind : Run → Place
-behind run = record { x = run.x1; y = run.row }
+abbrev pub place_behind : Run → Place
+place_behind run = record { x = run.x1; y = run.row }
 
 -- the one run lies before the other: in a row above, or left of it in the same row
-abbrev pub IsBefore : Run → Run → Type 0
-IsBefore r s = (r.row < s.row) ⊎ ((r.row ≡ s.row) × (r.x1 ≤ s.x0))
+abbrev pub IsRunBefore : Run → Run → Type 0
+IsRunBefore r s = (r.row < s.row) ⊎ ((r.row ≡ s.row) × (r.x1 ≤ s.x0))
 
 -- the runs have a place each, and are listed by row and from the left
-pub record AreInOrder (runs : List Run) : Type 0 where
+pub record AreRunsInOrder (runs : List Run) : Type 0 where
   pub some : (i : ℕ) → i < length runs → (run_at runs i).x0 < (run_at runs i).x1
-  pub order : (i j : ℕ) → i < j → j < length runs → IsBefore (run_at runs i) (run_at runs j)
+  pub order : (i j : ℕ) → i < j → j < length runs → IsRunBefore (run_at runs i) (run_at runs j)
 
 -- the maximal runs of black places of the first rows of the page, by row and from the left
 pub record AreRunsAbove (page : Page) (y : ℕ) (runs : List Run) : Type 0 where
-  pub in_order : AreInOrder runs
+  pub in_order : AreRunsInOrder runs
   pub above : (i : ℕ) → i < length runs → (run_at runs i).row < y
-  pub blacks : (i : ℕ) (p : Place) → i < length runs → IsIn (run_at runs i) p → IsBlack page p
-  pub maximal : (i : ℕ) → i < length runs → IsBlack page (behind (run_at runs i)) → ⊥
-  pub every : (p : Place) → p.y < y → IsBlack page p → (i : ℕ) × (i < length runs) × IsIn (run_at runs i) p
+  pub blacks : (i : ℕ) (p : Place) → i < length runs → IsInRun (run_at runs i) p → IsBlack page p
+  pub maximal : (i : ℕ) → i < length runs → IsBlack page (place_behind (run_at runs i)) → ⊥
+  pub every : (p : Place) → p.y < y → IsBlack page p → (i : ℕ) × (i < length runs) × IsInRun (run_at runs i) p
 
 -- the maximal runs of black places of the page, by row and from the left
 abbrev pub AreRuns : Page → List Run → Type 0
@@ -75,7 +80,8 @@ pub record AddsRow (bits : List ℕ) (row width x : ℕ) (old new : List Run) : 
   pub blacks : (i k : ℕ) → length old ≤ i → i < length new → (run_at new i).x0 ≤ k → k < (run_at new i).x1 → pixel bits k ≡ 1
   pub maximal : (i : ℕ) → length old ≤ i → i < length new → (run_at new i).x1 < width → pixel bits (run_at new i).x1 ≡ 0
   pub order : (i j : ℕ) → length old ≤ i → i < j → j < length new → (run_at new i).x1 ≤ (run_at new j).x0
-  pub every : (k : ℕ) → k < x → pixel bits k ≡ 1 → (i : ℕ) × (length old ≤ i) × (i < length new) × ((run_at new i).x0 ≤ k) × (k < (run_at new i).x1)
+  pub every : (k : ℕ) → k < x → pixel bits k ≡ 1 → (i : ℕ) × (length old ≤ i) × (i < length new)
+      × ((run_at new i).x0 ≤ k) × (k < (run_at new i).x1)
   pub few : length new ≤ length old + x
 
 -- the runs lie in one row or in neighbouring ones, and meet, corners included
@@ -94,7 +100,7 @@ pub record IsSeen (runs : List Run) (marks : List Bool) (p : Place) : Type 0 whe
   pub index : ℕ
   pub below : index < length runs
   pub mark : IsMarkedRun marks index
-  pub inside : IsIn (run_at runs index) p
+  pub inside : IsInRun (run_at runs index) p
 
 -- some runs got their marks and now wait; those that wait have their marks if they had them before
 pub record GrowsRuns (IsNew : ℕ → Type 0) (old new : List Bool) (waiting_old waiting_new : List ℕ) : Type 0 where

@@ -6,14 +6,15 @@ ghost use Rattle.layout_geom.specs.Rectangles.{HasSides};
 ghost use Rattle.components.specs.declared.place.Place.{Place as PlaceValue};
 ghost use Rattle.components.specs.Connected.{IsConnected};
 ghost use Rattle.components.specs.Boxes.{IsBoxOf};
-ghost use Rattle.components.specs.Runs.{AreInOrder, AreStarts, IsRunTable, IsTouching, IsTouchingAt, IsMarkedRun, IsSeen, GrowsRuns, SpreadsOver, run_at, first_of};
+ghost use Rattle.components.specs.Runs.{AreRunsInOrder, AreStarts, IsRunTable, IsTouching, IsTouchingAt, run_at, first_of};
+ghost use Rattle.components.specs.Runs.{IsMarkedRun, IsSeen, GrowsRuns, SpreadsOver};
 
 use crate::bounds::Bounds;
-use crate::place::Place;
 use crate::row_runs::Run;
 use crate::run_table::RunTable;
 use layout_geom::Rect;
-use page_runs::{OutOfMemory, RunPage};
+use layout_limits::OutOfMemory;
+use page_runs::RunPage;
 use std::alloc::Global;
 
 /// Marks a run that has no mark, and lets it wait.
@@ -53,7 +54,7 @@ fn first_reaching(runs: &[Run], from: usize, to: usize, x: u16) -> usize
     low
 }
 
-/// Visits the runs of a row above or below that touch this one.
+/// Visits the runs of the row above or below that touch this one, if the table has that row.
 fn visit_row(
     table: &RunTable,
     marks: &mut Vec<bool>,
@@ -61,16 +62,19 @@ fn visit_row(
     run: Run,
     row: usize,
 ) -> Result<(), OutOfMemory>
-    requires in_order { AreInOrder table.now.runs.items }
+    requires in_order { AreRunsInOrder table.now.runs.items }
     requires starts { AreStarts table.now.runs.items table.now.starts.items }
-    requires row { row + 1 < length table.now.starts.items }
     requires above { run.row ≤ row + 1 }
     requires below { row ≤ run.row + 1 }
     requires len { length marks.old.items ≡ length table.now.runs.items }
-    ensures grows { OnOk result (GrowsRuns (IsTouchingAt table.now.runs.items run) marks.old.items marks.new.items waiting.old.items waiting.new.items) }
+    ensures grows { OnOk result (GrowsRuns (IsTouchingAt table.now.runs.items run)
+        marks.old.items marks.new.items waiting.old.items waiting.new.items) }
     ensures gains { OnOk result ((i : ℕ) → i < length table.now.runs.items → (run_at table.now.runs.items i).row ≡ row
         → IsTouching run (run_at table.now.runs.items i) → IsMarkedRun marks.new.items i) }
 {
+    if row + 1 >= table.starts.len() {
+        return Ok(());
+    }
     let to = table.starts[row + 1];
     let from = first_reaching(&table.runs, table.starts[row], to, run.x0);
     for i in from..to {
@@ -89,37 +93,17 @@ fn visit_above(
     waiting: &mut Vec<usize>,
     run: Run,
 ) -> Result<(), OutOfMemory>
-    requires in_order { AreInOrder table.now.runs.items }
+    requires in_order { AreRunsInOrder table.now.runs.items }
     requires starts { AreStarts table.now.runs.items table.now.starts.items }
     requires row { run.row < length table.now.starts.items }
     requires len { length marks.old.items ≡ length table.now.runs.items }
-    ensures grows { OnOk result (GrowsRuns (IsTouchingAt table.now.runs.items run) marks.old.items marks.new.items waiting.old.items waiting.new.items) }
+    ensures grows { OnOk result (GrowsRuns (IsTouchingAt table.now.runs.items run)
+        marks.old.items marks.new.items waiting.old.items waiting.new.items) }
     ensures gains { OnOk result ((i : ℕ) → i < length table.now.runs.items → (run_at table.now.runs.items i).row + 1 ≡ run.row
         → IsTouching run (run_at table.now.runs.items i) → IsMarkedRun marks.new.items i) }
 {
     if run.row > 0 {
         visit_row(table, marks, waiting, run, usize::from(run.row) - 1)?;
-    }
-    Ok(())
-}
-
-/// Visits the runs of the row below that touch this one.
-fn visit_below(
-    table: &RunTable,
-    marks: &mut Vec<bool>,
-    waiting: &mut Vec<usize>,
-    run: Run,
-) -> Result<(), OutOfMemory>
-    requires in_order { AreInOrder table.now.runs.items }
-    requires starts { AreStarts table.now.runs.items table.now.starts.items }
-    requires len { length marks.old.items ≡ length table.now.runs.items }
-    ensures grows { OnOk result (GrowsRuns (IsTouchingAt table.now.runs.items run) marks.old.items marks.new.items waiting.old.items waiting.new.items) }
-    ensures gains { OnOk result ((i : ℕ) → i < length table.now.runs.items → (run_at table.now.runs.items i).row ≡ run.row + 1
-        → IsTouching run (run_at table.now.runs.items i) → IsMarkedRun marks.new.items i) }
-{
-    let below = usize::from(run.row) + 1;
-    if below + 1 < table.starts.len() {
-        visit_row(table, marks, waiting, run, below)?;
     }
     Ok(())
 }
@@ -157,27 +141,18 @@ pub(crate) fn flood(
     ensures marked { OnOk result (IsMarkedRun marks.new.items start) }
     ensures is_box { IfOk result (IsBoxOf (page_of page.now) (first_of (run_at table.now.runs.items start))) }
 {
+    // A page's limits are known to the proof once its height was asked for.
     let _size = page.height();
     let first = table.runs[start];
     let mut waiting = Vec::new(alloc);
     marks[start] = true;
     waiting.push(start)?;
-    let mut bounds = Bounds::of(Place {
-        x: first.x0,
-        y: first.row,
-    });
+    let mut bounds = Bounds::of(first);
     while let Some(i) = waiting.pop() {
         let run = table.runs[i];
-        bounds.add(Place {
-            x: run.x0,
-            y: run.row,
-        });
-        bounds.add(Place {
-            x: run.x1 - 1,
-            y: run.row,
-        });
+        bounds.add(run);
         visit_above(table, marks, &mut waiting, run)?;
-        visit_below(table, marks, &mut waiting, run)?;
+        visit_row(table, marks, &mut waiting, run, usize::from(run.row) + 1)?;
     }
     Ok(box_of(bounds))
 }

@@ -3,18 +3,32 @@ ghost use Rattle.std.specs.Prelude.{◌≡◌, ◌<◌, ◌≤◌, OnOk, IfOk, I
 ghost use Rattle.page_runs.specs.Page.{Page};
 ghost use Rattle.page_runs.specs.Packed.{Holds, IsWhole};
 ghost use Rattle.layout_geom.specs.Rectangles.{height_of};
-ghost use Rattle.components.specs.Kept.{IsKeptOf, IsFaultOf, IsLowerMedian, IsCharSized, KeptIsUnique};
+ghost use Rattle.components.specs.Kept.{IsKeptOf, IsFaultOf, IsLowerMedian, IsCharSized, is_char_sized as char_test, KeptIsUnique};
 
 use crate::scan::kept_boxes;
 use layout_geom::{Rect, Rects};
-use page_runs::{OutOfMemory, RunPage};
+use layout_limits::OutOfMemory;
+use page_runs::RunPage;
 use std::alloc::Global;
 
-/// The components of a page that are kept: those that are more than 2 pixels wide or more than 2
-/// pixels high.
+/// The most components that may be kept of a page.
+pub const MAX_KEPT: usize = 60_000;
+
+/// The median height is at most this many times the height of a character.
+pub const MAX_MEDIAN_IN_HEIGHTS: u32 = 2;
+
+/// A character is at most this many median heights high.
+pub const MAX_HEIGHT_IN_MEDIANS: u32 = 3;
+
+/// A character is at most this many median heights wide.
+pub const MAX_WIDTH_IN_MEDIANS: u32 = 6;
+
+/// The components of a page that are kept: those that are more than `MAX_NOISE` pixels wide or more
+/// than `MAX_NOISE` pixels high.
 #[derive(Drop)]
 pub struct Kept {
-    /// The least rectangle round each, by y0, then x0, y1 and x1; equal ones are repeated.
+    /// The least rectangle round each in pixels of the page, by `y0`, then `x0`, `y1` and `x1`; equal
+    /// ones are repeated.
     pub boxes: Rects,
     /// The lower median of their heights in pixels, or 0 where there is none.
     pub median: u16,
@@ -23,7 +37,7 @@ pub struct Kept {
 /// Why a page has no list of kept components.
 #[derive(Debug, Drop)]
 pub enum CompFault {
-    /// More than 60,000 components are kept, and so many.
+    /// More than `MAX_KEPT` components are kept, and so many.
     TooMany { count: u32 },
     /// There is no memory.
     Memory,
@@ -40,16 +54,14 @@ impl From<OutOfMemory> for CompFault {
     }
 }
 
-/// The most components that are kept.
-const MOST_KEPT: usize = 60_000;
-
+/// The heights of the boxes in pixels, in their order.
 fn heights_of(alloc: Global, boxes: &[Rect]) -> Result<Vec<u16>, OutOfMemory>
     ensures { IfOk result (λ heights. heights.items ≡ map height_of boxes.now) }
 {
     boxes.iter().map(|rect| rect.height()).collect(alloc)
 }
 
-/// The lower median of the heights, or 0 where there is no box.
+/// The lower median of the heights in pixels, or 0 where there is no box.
 fn median_height(alloc: Global, boxes: &[Rect]) -> Result<u16, OutOfMemory>
     ensures { IfOk result (IsLowerMedian (map height_of boxes.now)) }
 {
@@ -63,7 +75,12 @@ fn median_height(alloc: Global, boxes: &[Rect]) -> Result<u16, OutOfMemory>
 
 /// The kept components of a whole page. Two black pixels are connected where a path of black
 /// pixels leads from one to the other, each an 8-neighbour of the one before; a component is a class
-/// of connected pixels, and its box the least rectangle round it.
+/// of connected pixels, and its box the least rectangle round it. A component whose box is at most
+/// `MAX_NOISE` pixels wide and high is noise, and not kept.
+///
+/// # Errors
+///
+/// More than `MAX_KEPT` components are kept, or there is no memory.
 ///
 /// Time grows with the bytes of the page, and with its runs of black pixels times the logarithm of
 /// the most runs of a row. Memory is taken for a list of the runs, a mark for each, a list of the
@@ -75,7 +92,7 @@ pub fn components(alloc: Global, page: &RunPage) -> Result<Kept, CompFault>
     ensures fault { (held : Page) → Holds page.now held → IfErr result (IsFaultOf held) }
 {
     let mut boxes = kept_boxes(alloc, page)?;
-    if boxes.len() > MOST_KEPT {
+    if boxes.len() > MAX_KEPT {
         return Err(CompFault::TooMany {
             count: boxes.len() as u32,
         });
@@ -88,15 +105,19 @@ pub fn components(alloc: Global, page: &RunPage) -> Result<Kept, CompFault>
     })
 }
 
-/// Whether a box has about the size of a character, by the median height: it is at least half as
-/// high, at most 3 times as high, and at most 6 times as wide.
+/// Whether a box has about the size of a character, by the median height in pixels: that is at most
+/// `MAX_MEDIAN_IN_HEIGHTS` times the box's height, the box is at most `MAX_HEIGHT_IN_MEDIANS` times as
+/// high as the median, and at most `MAX_WIDTH_IN_MEDIANS` times as wide.
 pub fn is_char_sized(rect: &Rect, median: u16) -> bool
-    ensures { IsTrue result ↔ IsCharSized rect.now median }
+    ensures facts { IsTrue result ↔ IsCharSized rect.now median }
+    ensures test { result ≡ char_test rect.now median }
 {
     let height = u32::from(rect.height());
     let width = u32::from(rect.width());
     let median = u32::from(median);
-    median <= 2 * height && height <= 3 * median && width <= 6 * median
+    median <= MAX_MEDIAN_IN_HEIGHTS * height
+        && height <= MAX_HEIGHT_IN_MEDIANS * median
+        && width <= MAX_WIDTH_IN_MEDIANS * median
 }
 
 /// States a law, and does nothing: a page has one list of kept boxes and one number of kept

@@ -12,4 +12,8 @@ mod scan;
 #[cfg(test)]
 mod tests;
 
-pub use kept::{CompFault, Kept, components, is_char_sized, kept_is_unique};
+pub use kept::{
+    CompFault, Kept, MAX_HEIGHT_IN_MEDIANS, MAX_KEPT, MAX_MEDIAN_IN_HEIGHTS, MAX_WIDTH_IN_MEDIANS,
+    components, is_char_sized, kept_is_unique,
+};
+pub use scan::MAX_NOISE;

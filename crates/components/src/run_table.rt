@@ -4,14 +4,16 @@ ghost use Rattle.page_runs.specs.Packed.{IsWhole, page_of};
 ghost use Rattle.components.specs.Runs.{IsRunTable};
 
 use crate::row_runs::{Run, add_row};
-use page_runs::{OutOfMemory, RunPage};
+use layout_limits::OutOfMemory;
+use page_runs::RunPage;
 use std::alloc::Global;
 
-/// The runs of a page by row and from the left. `starts` has the number of the first run of each
-/// row, and at its end the number of all runs.
+/// The runs of a page, by row and from the left.
 #[derive(Drop)]
 pub(crate) struct RunTable {
+    /// The runs of all rows.
     pub(crate) runs: Vec<Run>,
+    /// For each row from the top, and for the row below the last, how many runs lie above it.
     pub(crate) starts: Vec<usize>,
 }
 

@@ -9,14 +9,18 @@ ghost use Rattle.components.specs.Kept.{IsKeptBoxes};
 use crate::flood::flood;
 use crate::run_table::{RunTable, run_table};
 use layout_geom::Rect;
-use page_runs::{OutOfMemory, RunPage};
+use layout_limits::{MAX_PIXELS, OutOfMemory};
+use page_runs::RunPage;
 use std::alloc::Global;
+
+/// The greatest width and the greatest height of noise, in pixels.
+pub const MAX_NOISE: u16 = 2;
 
 /// Whether a component with this box is kept; what is smaller is noise.
 fn is_large(rect: &Rect) -> bool
     ensures { IsTrue result ↔ IsLarge rect.now }
 {
-    rect.width() > 2 || rect.height() > 2
+    rect.width() > MAX_NOISE || rect.height() > MAX_NOISE
 }
 
 /// Finds the component of a run that has no mark yet.
@@ -52,8 +56,9 @@ fn scan(
 pub(crate) fn kept_boxes(alloc: Global, page: &RunPage) -> Result<Vec<Rect>, OutOfMemory>
     requires { IsWhole page.now }
     ensures kept { IfOk result (λ boxes. IsKeptBoxes (page_of page.now) boxes.items) }
-    ensures few { IfOk result (λ boxes. length boxes.items ≤ 33554432) }
+    ensures few { IfOk result (λ boxes. length boxes.items ≤ MAX_PIXELS) }
 {
+    // A page's limits are known to the proof once its height was asked for.
     let _size = page.height();
     let table = run_table(alloc, page)?;
     let mut marks = vec![in alloc; false; table.runs.len()]?;

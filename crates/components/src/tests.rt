@@ -5,7 +5,8 @@ ghost use Rattle.components.specs.Packed.{IsWhole};
 
 use crate::kept::{CompFault, components, is_char_sized, kept_is_unique};
 use layout_geom::Rect;
-use page_runs::{OutOfMemory, RowSink, RunPage};
+use layout_limits::{MAX_SIDE, OutOfMemory};
+use page_runs::{RowSink, RunPage};
 use std::alloc::Global;
 use std::process::Abort;
 use std::test::Fail;
@@ -17,7 +18,7 @@ fn row_of<F: Fn(u16, u16) -> bool>(
     y: u16,
     black: &F,
 ) -> Result<Vec<u8>, OutOfMemory>
-    requires width { width ≤ 8192 }
+    requires width { width ≤ MAX_SIDE }
     requires callable { F.IsAlwaysCallable black.now }
     ensures { IfOk result (λ bits. length bits.items ≡ row_len width) }
 {

@@ -50,23 +50,23 @@ every_gutter_stays kept whites =
     (λ rect stays g. stays (gutter_passes kept rect g)) whites (passing_stays (is_gutter kept) whites)
 
 -- the next rectangle, which is a gutter
-pub found_more : (kept : Kept) (whites found : List Rect) (i : ℕ) (white : Rect) → i < length whites → white ≡ get_or whites i white → found ≡ gutters_of kept (take i whites)
+pub gutters_more : (kept : Kept) (whites found : List Rect) (i : ℕ) (white : Rect) → i < length whites → white ≡ get_or whites i white → found ≡ gutters_of kept (take i whites)
     → is_gutter kept white ≡ true → found ++ white ∷ [] ≡ gutters_of kept (take (i + 1) whites)
-found_more kept whites found i white low at so_far passes =
+gutters_more kept whites found i white low at so_far passes =
     let more = filter_more (is_gutter kept) whites i white low in
     let here : is_gutter kept (get_or whites i white) ≡ true = rw (← at) passes in
     rw (more, here, ← at, so_far) refl
 
 -- the next rectangle, which is none
-pub found_same : (kept : Kept) (whites found : List Rect) (i : ℕ) (white : Rect) → i < length whites → white ≡ get_or whites i white → found ≡ gutters_of kept (take i whites)
+pub gutters_same : (kept : Kept) (whites found : List Rect) (i : ℕ) (white : Rect) → i < length whites → white ≡ get_or whites i white → found ≡ gutters_of kept (take i whites)
     → is_gutter kept white ≡ false → found ≡ gutters_of kept (take (i + 1) whites)
-found_same kept whites found i white low at so_far fails =
+gutters_same kept whites found i white low at so_far fails =
     let more = filter_more (is_gutter kept) whites i white low in
     let here : is_gutter kept (get_or whites i white) ≡ false = rw (← at) fails in
     rw (more, here, append-nil, so_far) refl
 
 -- what is found at the end
-pub found_all : (kept : Kept) (whites read found : List Rect) (i : ℕ) → read ≡ whites → length read ≤ i → found ≡ gutters_of kept (take i read) → found ≡ gutters_of kept whites
-found_all kept whites read found i same all so_far =
+pub gutters_all : (kept : Kept) (whites read found : List Rect) (i : ℕ) → read ≡ whites → length read ≤ i → found ≡ gutters_of kept (take i read) → found ≡ gutters_of kept whites
+gutters_all kept whites read found i same all so_far =
     let whole : take i read ≡ read = take_all i read all in
     so_far ∙ ap (gutters_of kept) (whole ∙ same)

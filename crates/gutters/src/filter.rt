@@ -4,42 +4,43 @@ ghost use Rattle.gutters.specs.Gutters.{left_count, right_count, IsGutter, is_gu
 
 use crate::beside::{stands_left, stands_right};
 use components::Kept;
-use layout_geom::{OutOfMemory, Rect, Rects};
+use layout_geom::{Rect, Rects};
+use layout_limits::OutOfMemory;
 use std::alloc::Global;
 
 /// The least number of boxes on either side of a gutter.
-const LEAST_BOXES: usize = 3;
+pub const LEAST_BOXES: usize = 3;
 
 /// How many times as high as wide a gutter is at least.
-const LEAST_RATIO: u32 = 3;
+pub const LEAST_RATIO: u32 = 3;
 
 /// Whether enough of the kept boxes stand on the left of a rectangle.
 fn has_left(rect: &Rect, kept: &Kept) -> bool
-    ensures { IsTrue result ↔ (3 ≤ left_count kept.now rect.now) }
+    ensures { IsTrue result ↔ (LEAST_BOXES ≤ left_count kept.now rect.now) }
 {
     let boxes = kept.boxes.as_slice();
-    boxes
+    let left = boxes
         .iter()
         .filter(|char_box| stands_left(rect, kept.median, char_box))
-        .count()
-        >= LEAST_BOXES
+        .count();
+    left >= LEAST_BOXES
 }
 
 /// Whether enough of the kept boxes stand on its right.
 fn has_right(rect: &Rect, kept: &Kept) -> bool
-    ensures { IsTrue result ↔ (3 ≤ right_count kept.now rect.now) }
+    ensures { IsTrue result ↔ (LEAST_BOXES ≤ right_count kept.now rect.now) }
 {
     let boxes = kept.boxes.as_slice();
-    boxes
+    let right = boxes
         .iter()
         .filter(|char_box| stands_right(rect, kept.median, char_box))
-        .count()
-        >= LEAST_BOXES
+        .count();
+    right >= LEAST_BOXES
 }
 
-/// Whether the rectangle is a gutter among the kept boxes: it is at least 3 times as high as wide,
-/// and at least 3 boxes stand on its left (`stands_left`) and 3 on its right (`stands_right`),
-/// where equal boxes count as often as they stand in the list.
+/// Whether the rectangle is a gutter among the kept boxes: it is at least `LEAST_RATIO` times as high
+/// as wide, and at least `LEAST_BOXES` boxes stand on its left (`stands_left`) and as many on its
+/// right (`stands_right`), where equal boxes count as often as they stand in the list.
 ///
 /// Time grows with the number of boxes. It takes no memory.
 pub fn is_gutter(rect: &Rect, kept: &Kept) -> bool

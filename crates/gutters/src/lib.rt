@@ -6,6 +6,5 @@ mod filter;
 #[cfg(test)]
 mod tests;
 
-pub use beside::{stands_left, stands_right};
-pub use filter::{gutters, is_gutter};
-pub use layout_geom::OutOfMemory;
+pub use beside::{MAX_GAP_IN_MEDIANS, stands_left, stands_right};
+pub use filter::{LEAST_BOXES, LEAST_RATIO, gutters, is_gutter};

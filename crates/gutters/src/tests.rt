@@ -1,7 +1,8 @@
 //! Gutters of pages whose boxes were written down by hand.
-use crate::{OutOfMemory, gutters, is_gutter, stands_left, stands_right};
+use crate::{gutters, is_gutter, stands_left, stands_right};
 use components::Kept;
 use layout_geom::{Rect, Rects};
+use layout_limits::OutOfMemory;
 use std::alloc::Global;
 use std::process::Abort;
 use std::test::Fail;
@@ -17,16 +18,53 @@ fn rects(alloc: Global, sides: &[[u16; 4]]) -> Result<Rects, OutOfMemory> {
     Ok(rects)
 }
 
-/// The places of blocks 10 by 10, each `x0 y0`.
+/// Puts a block 10 by 10 at a place of a small page.
+fn add_block(boxes: &mut Rects, x0: u16, y0: u16) -> Result<(), OutOfMemory> {
+    if x0 <= 100 && y0 <= 100 {
+        if let Some(block) = Rect::new(x0, y0, x0 + 10, y0 + 10) {
+            boxes.push(block)?;
+        }
+    }
+    Ok(())
+}
+
+/// Blocks at these places, each `x0 y0`.
 fn blocks(alloc: Global, places: &[[u16; 2]]) -> Result<Kept, OutOfMemory> {
     let mut boxes = Rects::new(alloc);
     for [x0, y0] in places {
-        if *x0 <= 100 && *y0 <= 100 {
-            if let Some(block) = Rect::new(*x0, *y0, *x0 + 10, *y0 + 10) {
-                boxes.push(block)?;
-            }
-        }
+        add_block(&mut boxes, *x0, *y0)?;
     }
+    Ok(Kept { boxes, median: 10 })
+}
+
+/// Puts a line of blocks at these columns.
+fn add_line(boxes: &mut Rects, columns: &[u16], y0: u16) -> Result<(), OutOfMemory> {
+    for x0 in columns {
+        add_block(boxes, *x0, y0)?;
+    }
+    Ok(())
+}
+
+/// Puts a line of 6 blocks at each of these rows, in two columns of text.
+fn add_two_columns(boxes: &mut Rects, rows: [u16; 3]) -> Result<(), OutOfMemory> {
+    for y0 in rows {
+        add_line(boxes, &[2, 14, 26, 48, 60, 72], y0)?;
+    }
+    Ok(())
+}
+
+/// Two columns of text.
+fn two_columns(alloc: Global) -> Result<Kept, OutOfMemory> {
+    let mut boxes = Rects::new(alloc);
+    add_two_columns(&mut boxes, [2, 14, 26])?;
+    Ok(Kept { boxes, median: 10 })
+}
+
+/// The same below a heading of 7 blocks.
+fn heading_over_two_columns(alloc: Global) -> Result<Kept, OutOfMemory> {
+    let mut boxes = Rects::new(alloc);
+    add_line(&mut boxes, &[2, 14, 26, 38, 50, 62, 74], 2)?;
+    add_two_columns(&mut boxes, [14, 26, 38])?;
     Ok(Kept { boxes, median: 10 })
 }
 
@@ -43,64 +81,13 @@ fn has_gutters(
     Ok(found.as_slice() == wanted.as_slice())
 }
 
-/// The places of 6 blocks in each of 3 rows, in two columns of text.
-const TWO_COLUMNS: [[u16; 2]; 18] = [
-    [2, 2],
-    [14, 2],
-    [26, 2],
-    [48, 2],
-    [60, 2],
-    [72, 2],
-    [2, 14],
-    [14, 14],
-    [26, 14],
-    [48, 14],
-    [60, 14],
-    [72, 14],
-    [2, 26],
-    [14, 26],
-    [26, 26],
-    [48, 26],
-    [60, 26],
-    [72, 26],
-];
-
-/// The same below a heading of 7 blocks.
-const HEADING_OVER_TWO_COLUMNS: [[u16; 2]; 25] = [
-    [2, 2],
-    [14, 2],
-    [26, 2],
-    [38, 2],
-    [50, 2],
-    [62, 2],
-    [74, 2],
-    [2, 14],
-    [14, 14],
-    [26, 14],
-    [48, 14],
-    [60, 14],
-    [72, 14],
-    [2, 26],
-    [14, 26],
-    [26, 26],
-    [48, 26],
-    [60, 26],
-    [72, 26],
-    [2, 38],
-    [14, 38],
-    [26, 38],
-    [48, 38],
-    [60, 38],
-    [72, 38],
-];
-
 #[test]
 fn the_space_between_two_columns_is_a_gutter(rt: HostRuntime) -> Result<(), Fail> {
     let alloc = rt.alloc();
-    let columns = blocks(alloc, &TWO_COLUMNS)?;
+    let columns = two_columns(alloc)?;
     let between = [[36, 0, 48, 41]];
     assert!(rt; has_gutters(alloc, &columns, &between, &between)?);
-    let headed = blocks(alloc, &HEADING_OVER_TWO_COLUMNS)?;
+    let headed = heading_over_two_columns(alloc)?;
     let below = [[36, 12, 48, 53]];
     assert!(rt; has_gutters(alloc, &headed, &below, &below)?);
     Ok(())
@@ -109,7 +96,7 @@ fn the_space_between_two_columns_is_a_gutter(rt: HostRuntime) -> Result<(), Fail
 #[test]
 fn gutters_keep_the_order_of_the_white_rectangles(rt: HostRuntime) -> Result<(), Fail> {
     let alloc = rt.alloc();
-    let kept = blocks(alloc, &TWO_COLUMNS)?;
+    let kept = two_columns(alloc)?;
     let whites = [
         [38, 0, 46, 41],
         [0, 12, 84, 14],

@@ -32,7 +32,7 @@ fn run<S: Source, K: Sink, E: Sink>(
     // The headline: a run with status 0 read the input to its end and wrote just the document of its page, by the plan of the
     // words; or, where that has a seed, it wrote just the summary of the made page.
     ensures done { result ≡ 0 → IfOk words (λ words. WritesOutput Program.Alone (map string_bytes words.items)
-        (S.left src.old) (S.left src.new) (K.written out.old) (K.written out.new)) }
+        (S.view src.old).left (S.view src.new).left (K.view out.old).written (K.view out.new).written) }
     // Where the words could not be read, the status is 2 or 7, and nothing is read or written to `out`.
     ensures unreadable { IfErr words (λ _. ((result ≡ 2) ⊎ (result ≡ 7)) × (src.new ≡ src.old) × (out.new ≡ out.old)) }
 {

@@ -1,7 +1,5 @@
 //! Searches over the white space of a page: a bound word by hand, a shared frontier step by step, and workers.
-mod meeting;
 mod pages;
-mod passes;
 mod runs;
 mod shared;
 mod word;

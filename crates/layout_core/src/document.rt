@@ -43,30 +43,30 @@ pub(crate) fn write_document<F: Searcher<White>, G: Searcher<Grid>, S: Source, K
     requires few { plan.now.rects ≤ 256 }
     ensures statuses { IsStatus result × (result ≢ 2) }
     ensures done { result ≡ 0 → WritesDocument program (map string_bytes words.now)
-        (S.left src.old) (S.left src.new) (K.written out.old) (K.written out.new) }
+        (S.view src.old).left (S.view src.new).left (K.view out.old).written (K.view out.new).written }
     ensures silent { result ≡ 0 → err.new ≡ err.old }
-    ensures bad_page { result ≡ 3 → RefusesPage 3 (S.left src.old)
-        (E.written err.old) (E.written err.new) (E.faults err.old) (E.faults err.new) }
-    ensures faulty { (input : List ℕ) (fault : PageFault) → S.left src.old ≡ Some input → HasFault input fault
-        → ¬ Rose (S.faults src.old) (S.faults src.new) → (result ≡ fault_status fault) ⊎ (result ≡ 7) }
-    ensures limited { result ≡ 4 → RefusesPage 4 (S.left src.old)
-        (E.written err.old) (E.written err.new) (E.faults err.old) (E.faults err.new)
-        ⊎ RefusesComponents (S.left src.old) (S.left src.new)
-        (E.written err.old) (E.written err.new) (E.faults err.old) (E.faults err.new) }
-    ensures limit { (input : List ℕ) (page : Page) (count : ℕ) → S.left src.old ≡ Some input → Spells input page
-        → HasTooMany page count → ¬ Rose (S.faults src.old) (S.faults src.new) → (result ≡ 4) ⊎ (result ≡ 7) }
-    ensures read_fault { result ≡ 5 → Rose (S.faults src.old) (S.faults src.new)
-        × IsUndecided (S.left src.old) (S.left src.new)
-        × WritesLine (E.written err.old) (E.written err.new) (E.faults err.old) (E.faults err.new) (fault_line PageFault.ReadFault) }
-    ensures write_fault { result ≡ 6 → Rose (K.faults out.old) (K.faults out.new)
-        × FrontOfDocument program (map string_bytes words.now) (S.left src.old) (S.left src.new) (K.written out.old) (K.written out.new)
-        × WritesLine (E.written err.old) (E.written err.new) (E.faults err.old) (E.faults err.new) (line_of Refusal.WriteFault) }
+    ensures bad_page { result ≡ 3 → RefusesPage 3 (S.view src.old).left
+        (E.view err.old).written (E.view err.new).written (E.view err.old).faults (E.view err.new).faults }
+    ensures faulty { (input : List ℕ) (fault : PageFault) → (S.view src.old).left ≡ Some input → HasFault input fault
+        → ¬ Rose (S.view src.old).faults (S.view src.new).faults → (result ≡ fault_status fault) ⊎ (result ≡ 7) }
+    ensures limited { result ≡ 4 → RefusesPage 4 (S.view src.old).left
+        (E.view err.old).written (E.view err.new).written (E.view err.old).faults (E.view err.new).faults
+        ⊎ RefusesComponents (S.view src.old).left (S.view src.new).left
+        (E.view err.old).written (E.view err.new).written (E.view err.old).faults (E.view err.new).faults }
+    ensures limit { (input : List ℕ) (page : Page) (count : ℕ) → (S.view src.old).left ≡ Some input → Spells input page
+        → HasTooMany page count → ¬ Rose (S.view src.old).faults (S.view src.new).faults → (result ≡ 4) ⊎ (result ≡ 7) }
+    ensures read_fault { result ≡ 5 → Rose (S.view src.old).faults (S.view src.new).faults
+        × IsUndecided (S.view src.old).left (S.view src.new).left
+        × WritesLine (E.view err.old).written (E.view err.new).written (E.view err.old).faults (E.view err.new).faults (fault_line PageFault.ReadFault) }
+    ensures write_fault { result ≡ 6 → Rose (K.view out.old).faults (K.view out.new).faults
+        × FrontOfDocument program (map string_bytes words.now) (S.view src.old).left (S.view src.new).left (K.view out.old).written (K.view out.new).written
+        × WritesLine (E.view err.old).written (E.view err.new).written (E.view err.old).faults (E.view err.new).faults (line_of Refusal.WriteFault) }
     ensures memory { result ≡ 7 →
-        WritesLine (E.written err.old) (E.written err.new) (E.faults err.old) (E.faults err.new) (line_of Refusal.Memory) }
+        WritesLine (E.view err.old).written (E.view err.new).written (E.view err.old).faults (E.view err.new).faults (line_of Refusal.Memory) }
     ensures unwritten { result ≢ 0 → result ≢ 6 → out.new ≡ out.old }
-    ensures complete { (input : List ℕ) (page : Page) → S.left src.old ≡ Some input → Spells input page
-        → HasFewComponents page → ¬ Rose (S.faults src.old) (S.faults src.new)
-        → (result ≡ 0) ⊎ ((result ≡ 6) × Rose (K.faults out.old) (K.faults out.new)) ⊎ (result ≡ 7) }
+    ensures complete { (input : List ℕ) (page : Page) → (S.view src.old).left ≡ Some input → Spells input page
+        → HasFewComponents page → ¬ Rose (S.view src.old).faults (S.view src.new).faults
+        → (result ≡ 0) ⊎ ((result ≡ 6) × Rose (K.view out.old).faults (K.view out.new).faults) ⊎ (result ≡ 7) }
 {
     let layout = match read_layout(alloc, plan, for_whites, for_lines, src) {
         Ok(layout) => layout,

@@ -35,15 +35,15 @@ pub(crate) fn read_layout<F: Searcher<White>, G: Searcher<Grid>, S: Source>(
     requires lines_ready { G.ready for_lines.old }
     requires some { 1 ≤ plan.now.rects }
     requires few { plan.now.rects ≤ 256 }
-    ensures layout { IfOk result (ReadsLayout plan.now (S.left src.old) (S.left src.new)) }
-    ensures refused { IfErr result (RefusesLayout (S.left src.old) (S.left src.new)) }
-    ensures cause { HasRefusalCause (S.faults src.old) (S.faults src.new) result }
-    ensures complete { (input : List ℕ) (page : Page) → S.left src.old ≡ Some input → Spells input page → HasFewComponents page
-        → ¬ Rose (S.faults src.old) (S.faults src.new) → IfErr result IsWantOfMemory }
-    ensures limit { (input : List ℕ) (page : Page) (count : ℕ) → S.left src.old ≡ Some input → Spells input page → HasTooMany page count
-        → ¬ Rose (S.faults src.old) (S.faults src.new) → AnswersRefusal (Refusal.TooMany count) result }
-    ensures faulty { (input : List ℕ) (fault : PageFault) → S.left src.old ≡ Some input → HasFault input fault
-        → ¬ Rose (S.faults src.old) (S.faults src.new) → AnswersRefusal (Refusal.Page fault) result }
+    ensures layout { IfOk result (ReadsLayout plan.now (S.view src.old).left (S.view src.new).left) }
+    ensures refused { IfErr result (RefusesLayout (S.view src.old).left (S.view src.new).left) }
+    ensures cause { HasRefusalCause (S.view src.old).faults (S.view src.new).faults result }
+    ensures complete { (input : List ℕ) (page : Page) → (S.view src.old).left ≡ Some input → Spells input page → HasFewComponents page
+        → ¬ Rose (S.view src.old).faults (S.view src.new).faults → IfErr result IsWantOfMemory }
+    ensures limit { (input : List ℕ) (page : Page) (count : ℕ) → (S.view src.old).left ≡ Some input → Spells input page → HasTooMany page count
+        → ¬ Rose (S.view src.old).faults (S.view src.new).faults → AnswersRefusal (Refusal.TooMany count) result }
+    ensures faulty { (input : List ℕ) (fault : PageFault) → (S.view src.old).left ≡ Some input → HasFault input fault
+        → ¬ Rose (S.view src.old).faults (S.view src.new).faults → AnswersRefusal (Refusal.Page fault) result }
 {
     // The laws of the format, of a page that was read and of its components.
     each_input_is_judged();

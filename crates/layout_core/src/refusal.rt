@@ -85,7 +85,7 @@ impl Refusal {
 /// Writes the refusal's line, and answers its status. A fault of the sink changes no status.
 pub fn refuse<E: Sink>(err: &mut E, refusal: Refusal) -> u8
     ensures status { result ≡ status_of refusal }
-    ensures line { WritesLine (E.written err.old) (E.written err.new) (E.faults err.old) (E.faults err.new) (line_of refusal) }
+    ensures line { WritesLine (E.view err.old).written (E.view err.new).written (E.view err.old).faults (E.view err.new).faults (line_of refusal) }
 {
     let line = refusal.line();
     let _ = put_all(err, line.as_str().as_bytes());

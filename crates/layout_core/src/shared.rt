@@ -18,8 +18,9 @@ ghost use Rattle.layout_core.specs.declared.refusal.Refusal.{Refusal};
 
 use crate::job::lay_out;
 use crate::refusal::{Refusal, refuse};
-use box_search::{FromFn, OutOfMemory};
+use box_search::FromFn;
 use command_words::{Plan, Program, WordFault, words_have_one_plan, words_of};
+use layout_limits::OutOfMemory;
 use layout_outside::{Sink, Source};
 use lease_workers::{Gate, Workers};
 use line_search::Grid;
@@ -46,50 +47,50 @@ pub fn layout_shared<R: Threads + Wait + Sync, S: Source, K: Sink, E: Sink, G: G
     // The headline: the words have a plan, the input was read to its end, it spells a page, and just the document of the
     // page's layout by that plan was written; or the plan has a seed, and just the summary of the layout of its page was.
     ensures done { result ≡ 0 → WritesOutput Program.Shared (map string_bytes words.now)
-        (S.left src.old) (S.left src.new) (K.written out.old) (K.written out.new) }
+        (S.view src.old).left (S.view src.new).left (K.view out.old).written (K.view out.new).written }
     ensures silent { result ≡ 0 → err.new ≡ err.old }
 
     // 2 comes exactly where the words have no plan, and then the source is as before.
     ensures planless { HasNoPlan Program.Shared (map string_bytes words.now) → (result ≡ 2) ⊎ (result ≡ 7) }
     ensures usage { result ≡ 2 → HasNoPlan Program.Shared (map string_bytes words.now) × (src.new ≡ src.old)
-        × WritesLine (E.written err.old) (E.written err.new) (E.faults err.old) (E.faults err.new) (line_of (Refusal.Usage Program.Shared)) }
+        × WritesLine (E.view err.old).written (E.view err.new).written (E.view err.old).faults (E.view err.new).faults (line_of (Refusal.Usage Program.Shared)) }
     ensures planned { result ≢ 2 → result ≢ 7 → IsPlanned Program.Shared (map string_bytes words.now) }
 
     // 3 or 4 comes exactly where the input has a fault of that status and the run reaches it, and the line names the fault.
-    ensures bad_page { result ≡ 3 → IsReading Program.Shared (map string_bytes words.now) × RefusesPage 3 (S.left src.old)
-        (E.written err.old) (E.written err.new) (E.faults err.old) (E.faults err.new) }
-    ensures faulty { IsReading Program.Shared (map string_bytes words.now) → (input : List ℕ) (fault : PageFault) → S.left src.old ≡ Some input → HasFault input fault
-        → ¬ Rose (S.faults src.old) (S.faults src.new) → (result ≡ fault_status fault) ⊎ (result ≡ 7) }
+    ensures bad_page { result ≡ 3 → IsReading Program.Shared (map string_bytes words.now) × RefusesPage 3 (S.view src.old).left
+        (E.view err.old).written (E.view err.new).written (E.view err.old).faults (E.view err.new).faults }
+    ensures faulty { IsReading Program.Shared (map string_bytes words.now) → (input : List ℕ) (fault : PageFault) → (S.view src.old).left ≡ Some input → HasFault input fault
+        → ¬ Rose (S.view src.old).faults (S.view src.new).faults → (result ≡ fault_status fault) ⊎ (result ≡ 7) }
 
     // 4 comes also exactly where more than 60,000 components are kept and the run reaches it, and the line counts them.
-    ensures limited { result ≡ 4 → IsReading Program.Shared (map string_bytes words.now) × (RefusesPage 4 (S.left src.old)
-        (E.written err.old) (E.written err.new) (E.faults err.old) (E.faults err.new)
-        ⊎ RefusesComponents (S.left src.old) (S.left src.new)
-        (E.written err.old) (E.written err.new) (E.faults err.old) (E.faults err.new)) }
-    ensures limit { IsReading Program.Shared (map string_bytes words.now) → (input : List ℕ) (page : Page) (count : ℕ) → S.left src.old ≡ Some input → Spells input page
-        → HasTooMany page count → ¬ Rose (S.faults src.old) (S.faults src.new) → (result ≡ 4) ⊎ (result ≡ 7) }
+    ensures limited { result ≡ 4 → IsReading Program.Shared (map string_bytes words.now) × (RefusesPage 4 (S.view src.old).left
+        (E.view err.old).written (E.view err.new).written (E.view err.old).faults (E.view err.new).faults
+        ⊎ RefusesComponents (S.view src.old).left (S.view src.new).left
+        (E.view err.old).written (E.view err.new).written (E.view err.old).faults (E.view err.new).faults) }
+    ensures limit { IsReading Program.Shared (map string_bytes words.now) → (input : List ℕ) (page : Page) (count : ℕ) → (S.view src.old).left ≡ Some input → Spells input page
+        → HasTooMany page count → ¬ Rose (S.view src.old).faults (S.view src.new).faults → (result ≡ 4) ⊎ (result ≡ 7) }
 
-    ensures read_fault { result ≡ 5 → IsReading Program.Shared (map string_bytes words.now) × Rose (S.faults src.old) (S.faults src.new)
-        × IsUndecided (S.left src.old) (S.left src.new)
-        × WritesLine (E.written err.old) (E.written err.new) (E.faults err.old) (E.faults err.new) (fault_line PageFault.ReadFault) }
+    ensures read_fault { result ≡ 5 → IsReading Program.Shared (map string_bytes words.now) × Rose (S.view src.old).faults (S.view src.new).faults
+        × IsUndecided (S.view src.old).left (S.view src.new).left
+        × WritesLine (E.view err.old).written (E.view err.new).written (E.view err.old).faults (E.view err.new).faults (fault_line PageFault.ReadFault) }
 
     // A page was read, and a proper front of its document was written.
-    ensures write_fault { result ≡ 6 → Rose (K.faults out.old) (K.faults out.new)
-        × FrontOfOutput Program.Shared (map string_bytes words.now) (S.left src.old) (S.left src.new) (K.written out.old) (K.written out.new)
-        × WritesLine (E.written err.old) (E.written err.new) (E.faults err.old) (E.faults err.new) (line_of Refusal.WriteFault) }
+    ensures write_fault { result ≡ 6 → Rose (K.view out.old).faults (K.view out.new).faults
+        × FrontOfOutput Program.Shared (map string_bytes words.now) (S.view src.old).left (S.view src.new).left (K.view out.old).written (K.view out.new).written
+        × WritesLine (E.view err.old).written (E.view err.new).written (E.view err.old).faults (E.view err.new).faults (line_of Refusal.WriteFault) }
 
     ensures memory { result ≡ 7 →
-        WritesLine (E.written err.old) (E.written err.new) (E.faults err.old) (E.faults err.new) (line_of Refusal.Memory) }
+        WritesLine (E.view err.old).written (E.view err.new).written (E.view err.old).faults (E.view err.new).faults (line_of Refusal.Memory) }
     ensures unwritten { result ≢ 0 → result ≢ 6 → out.new ≡ out.old }
 
     // A page with few components that no read failed on is done, unless a write failed or memory was refused.
-    ensures complete { IsReading Program.Shared (map string_bytes words.now) → (input : List ℕ) (page : Page) → S.left src.old ≡ Some input → Spells input page
-        → HasFewComponents page → ¬ Rose (S.faults src.old) (S.faults src.new)
-        → (result ≡ 0) ⊎ ((result ≡ 6) × Rose (K.faults out.old) (K.faults out.new)) ⊎ (result ≡ 7) }
+    ensures complete { IsReading Program.Shared (map string_bytes words.now) → (input : List ℕ) (page : Page) → (S.view src.old).left ≡ Some input → Spells input page
+        → HasFewComponents page → ¬ Rose (S.view src.old).faults (S.view src.new).faults
+        → (result ≡ 0) ⊎ ((result ≡ 6) × Rose (K.view out.old).faults (K.view out.new).faults) ⊎ (result ≡ 7) }
 
     // A run on a made page reads nothing, and ends with 0, 6 or 7.
     ensures unread { IsMaking Program.Shared (map string_bytes words.now) → src.new ≡ src.old }
-    ensures made { IsMaking Program.Shared (map string_bytes words.now) → (result ≡ 0) ⊎ ((result ≡ 6) × Rose (K.faults out.old) (K.faults out.new)) ⊎ (result ≡ 7) }
+    ensures made { IsMaking Program.Shared (map string_bytes words.now) → (result ≡ 0) ⊎ ((result ≡ 6) × Rose (K.view out.old).faults (K.view out.new).faults) ⊎ (result ≡ 7) }
 {
     // The law of the words.
     words_have_one_plan();

@@ -11,9 +11,10 @@ ghost use Rattle.layout_core.specs.declared.refusal.Refusal.{Refusal};
 
 use crate::page_layout::{CoreFault, layout_of};
 use crate::refusal::{Refusal, refuse};
-use box_search::{OutOfMemory, Searcher};
+use box_search::Searcher;
 use command_words::{Plan, Program};
 use hocr_writer::{Layout, summary_text};
+use layout_limits::OutOfMemory;
 use layout_outside::{Sink, put_all};
 use line_search::Grid;
 use made_page::{made_page_has_few_components, make_page};
@@ -65,13 +66,13 @@ pub(crate) fn write_summary<F: Searcher<White>, G: Searcher<Grid>, K: Sink, E: S
     requires lines_ready { G.ready for_lines.old }
     requires some { 1 ≤ plan.now.rects }
     requires few { plan.now.rects ≤ 256 }
-    ensures statuses { (result ≡ 0) ⊎ ((result ≡ 6) × Rose (K.faults out.old) (K.faults out.new)) ⊎ (result ≡ 7) }
-    ensures done { result ≡ 0 → WritesSummary program (map string_bytes words.now) (K.written out.old) (K.written out.new) }
+    ensures statuses { (result ≡ 0) ⊎ ((result ≡ 6) × Rose (K.view out.old).faults (K.view out.new).faults) ⊎ (result ≡ 7) }
+    ensures done { result ≡ 0 → WritesSummary program (map string_bytes words.now) (K.view out.old).written (K.view out.new).written }
     ensures silent { result ≡ 0 → err.new ≡ err.old }
-    ensures write_fault { result ≡ 6 → FrontOfSummary program (map string_bytes words.now) (K.written out.old) (K.written out.new)
-        × WritesLine (E.written err.old) (E.written err.new) (E.faults err.old) (E.faults err.new) (line_of Refusal.WriteFault) }
+    ensures write_fault { result ≡ 6 → FrontOfSummary program (map string_bytes words.now) (K.view out.old).written (K.view out.new).written
+        × WritesLine (E.view err.old).written (E.view err.new).written (E.view err.old).faults (E.view err.new).faults (line_of Refusal.WriteFault) }
     ensures memory { result ≡ 7 →
-        WritesLine (E.written err.old) (E.written err.new) (E.faults err.old) (E.faults err.new) (line_of Refusal.Memory) }
+        WritesLine (E.view err.old).written (E.view err.new).written (E.view err.old).faults (E.view err.new).faults (line_of Refusal.Memory) }
     ensures unwritten { result ≡ 7 → out.new ≡ out.old }
 {
     let Ok(layout) = made_layout(alloc, plan, seed, for_whites, for_lines) else {

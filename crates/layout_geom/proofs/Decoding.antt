@@ -5,7 +5,7 @@ use Rattle.layout_geom.specs.declared.rect.Rect.{Rect}
 use Rattle.layout_geom.specs.Sides.{AreSides}
 use Rattle.layout_geom.specs.Rectangles.{width_of, height_of, area_of, HasSides}
 use Rattle.layout_geom.specs.Keys.{rect_key}
-use Rattle.layout_geom.specs.KeyLaws.{digits_of, width_in, left_in, top_in, area_in, IsDecoded, decoded, height_decoded, same_key}
+use Rattle.layout_geom.specs.KeyLaws.{key_digits, width_in, left_in, top_in, area_in, IsDecoded, decoded, height_decoded, same_key}
 
 pub width_divides : (r : Rect) (key : ℕ) → IsDecoded key r → area_in key % width_in key ≡ 0
 width_divides r key d = rw (← d.area, ← d.width) (mul-mod_right (width_of r) (height_of r))
@@ -24,7 +24,7 @@ encoded r key is divides =
     let height : height_of r ≡ area_in key / width_in key = omega (arith, is.top, is.bottom) in
     let product : width_in key * (area_in key / width_in key) ≡ area_in key = omega (arith, div-add-mod (area_in key) (width_in key), divides) in
     let area : area_of r ≡ area_in key = rw (width, height) product in
-    omega (arith, area, width, is.left, is.top, digits_of key)
+    omega (arith, area, width, is.left, is.top, key_digits key)
 
 -- what is made of the sides has the key
 pub made : (key : ℕ) (result : Option Rect) → IfSome result (λ r. HasSides r (left_in key) (top_in key) (left_in key + width_in key) (top_in key + area_in key / width_in key)) → area_in key % width_in key ≡ 0 → IfSome result (λ r. rect_key r ≡ key)

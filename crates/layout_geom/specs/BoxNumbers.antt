@@ -26,7 +26,8 @@ same_box r s us vs e =
     (same_sides r s (record { left = left.0; top = top.0; right = right.0; bottom = bottom.0 }), bottom.1)
 
 -- the numbers decide as many boxes, also where more numbers stand behind them
-pub same_boxes : (xs ys : List Rect) (us vs : List ℤ) → length xs ≡ length ys → boxes_numbers xs ++ us ≡ boxes_numbers ys ++ vs → (xs ≡ ys) × (us ≡ vs)
+pub same_boxes : (xs ys : List Rect) (us vs : List ℤ) → length xs ≡ length ys → boxes_numbers xs ++ us ≡ boxes_numbers ys ++ vs
+    → (xs ≡ ys) × (us ≡ vs)
 same_boxes [] [] us vs long e = (refl, e)
 same_boxes [] (y ∷ ys) us vs long e = absurd (omega arith)
 same_boxes (x ∷ xs) [] us vs long e = absurd (omega arith)

@@ -1,29 +1,33 @@
 -- What holds of the keys of all rectangles.
-use Rattle.std.proofs.Common.{◌≡◌, ◌≢◌, ℕ, ◌+◌, ◌-◌, ◌*◌, ◌^◌, ◌<◌, ◌≤◌, ◌/◌, ◌%◌, ◌⊎◌, arith, sym, refl, ◌∙◌, mul-pos, ⊎_elim, inl, inr, ap}
+use Rattle.std.proofs.Common.{◌≡◌, ◌≢◌, ℕ, ◌+◌, ◌-◌, ◌*◌, ◌^◌, ◌<◌, ◌≤◌, ◌/◌, ◌%◌, ◌⊎◌}
+use Rattle.std.proofs.Common.{arith, sym, refl, ◌∙◌, mul-pos, ⊎_elim, inl, inr, ap}
 use Rattle.std.proofs.Math.Nat.{mul-lt-mul_of_pos_right, mul-le-mul_left, mul_comm, mul-div_cancel_left, le-mul_of_pos_right}
 use Rattle.std.proofs.lemmas.Bool.{cases_lt}
+use Rattle.layout_limits.specs.declared.TheConstants.{MAX_SIDE}
 use Rattle.layout_geom.specs.declared.rect.Rect.{Rect}
 use Rattle.layout_geom.specs.Rectangles.{width_of, height_of, area_of, Encloses}
 use Rattle.layout_geom.specs.Keys.{rect_key, Outranks}
 use Rattle.layout_geom.specs.SameSides.{same_sides}
 
 -- the digits of a number are its own
-same_digits : (a b c d a' b' c' d' : ℕ) → b < 8192 → c < 8192 → d < 8192 → b' < 8192 → c' < 8192 → d' < 8192 → a * 549755813888 + b * 67108864 + c * 8192 + d ≡ a' * 549755813888 + b' * 67108864 + c' * 8192 + d' → (a ≡ a') × (b ≡ b') × (c ≡ c') × (d ≡ d')
+same_digits : (a b c d a' b' c' d' : ℕ) → b < 8192 → c < 8192 → d < 8192 → b' < 8192 → c' < 8192 → d' < 8192
+    → a * 549755813888 + b * 67108864 + c * 8192 + d ≡ a' * 549755813888 + b' * 67108864 + c' * 8192 + d' → (a ≡ a') × (b ≡ b') × (c ≡ c') × (d ≡ d')
 same_digits a b c d a' b' c' d' hb hc hd hb' hc' hd' e = (omega arith, omega arith, omega arith, omega arith)
 
 -- a number's digits
-pub digits_of : (key : ℕ) → key / 549755813888 * 549755813888 + (key / 67108864 % 8192) * 67108864 + (key / 8192 % 8192) * 8192 + key % 8192 ≡ key
-digits_of key = omega arith
+pub key_digits : (key : ℕ)
+    → key / 549755813888 * 549755813888 + (key / 67108864 % 8192) * 67108864 + (key / 8192 % 8192) * 8192 + key % 8192 ≡ key
+key_digits key = omega arith
 
 -- the measures that a key stands for
 abbrev pub width_in : ℕ → ℕ
-width_in key = 8192 - key % 8192
+width_in key = MAX_SIDE - key % 8192
 
 abbrev pub left_in : ℕ → ℕ
-left_in key = 8191 - key / 8192 % 8192
+left_in key = MAX_SIDE - 1 - key / 8192 % 8192
 
 abbrev pub top_in : ℕ → ℕ
-top_in key = 8191 - key / 67108864 % 8192
+top_in key = MAX_SIDE - 1 - key / 67108864 % 8192
 
 abbrev pub area_in : ℕ → ℕ
 area_in key = key / 549755813888 + 1
@@ -41,8 +45,9 @@ some_area r = mul-pos (omega (arith, r.sides.wide)) (omega (arith, r.sides.high)
 pub decoded : (r : Rect) (key : ℕ) → rect_key r ≡ key → IsDecoded key r
 unfolding rect_key
 decoded r key e =
-    let digits = same_digits (area_of r - 1) (8191 - r.y0) (8191 - r.x0) (8192 - width_of r) (key / 549755813888) (key / 67108864 % 8192) (key / 8192 % 8192) (key % 8192)
-    (omega arith) (omega arith) (omega (arith, r.sides.wide)) (omega arith) (omega arith) (omega arith) (e ∙ sym (digits_of key)) in
+    let digits = same_digits (area_of r - 1) (MAX_SIDE - 1 - r.y0) (MAX_SIDE - 1 - r.x0) (MAX_SIDE - width_of r)
+    (key / 549755813888) (key / 67108864 % 8192) (key / 8192 % 8192) (key % 8192)
+    (omega arith) (omega arith) (omega (arith, r.sides.wide)) (omega arith) (omega arith) (omega arith) (e ∙ sym (key_digits key)) in
     record {
       width = omega (arith, digits.3, r.sides.wide, r.sides.right);
       left = omega (arith, digits.2, r.sides.wide, r.sides.right);
@@ -109,9 +114,14 @@ inside_area r s within =
     ⊎_elim
     (λ less. inl less)
     (λ more.
-    let widths : width_of s ≡ width_of r = same_side (width_of r) (height_of r) (width_of s) (height_of s) (omega (arith, s.sides.high)) (omega (arith, within.left, within.right)) (omega (arith, within.top, within.bottom)) more in
-    let turned : height_of r * width_of r ≤ height_of s * width_of s = rw (mul_comm (height_of r) (width_of r), mul_comm (height_of s) (width_of s)) more in
-    let heights : height_of s ≡ height_of r = same_side (height_of r) (width_of r) (height_of s) (width_of s) (omega (arith, s.sides.wide)) (omega (arith, within.top, within.bottom)) (omega (arith, within.left, within.right)) turned in
+    let widths : width_of s ≡ width_of r =
+    same_side (width_of r) (height_of r) (width_of s) (height_of s)
+    (omega (arith, s.sides.high)) (omega (arith, within.left, within.right)) (omega (arith, within.top, within.bottom)) more in
+    let turned : height_of r * width_of r ≤ height_of s * width_of s =
+    rw (mul_comm (height_of r) (width_of r), mul_comm (height_of s) (width_of s)) more in
+    let heights : height_of s ≡ height_of r =
+    same_side (height_of r) (width_of r) (height_of s) (width_of s)
+    (omega (arith, s.sides.wide)) (omega (arith, within.top, within.bottom)) (omega (arith, within.left, within.right)) turned in
     inr (same_sides s r (record {
       left = omega (arith, widths, within.left, within.right, s.sides.wide, r.sides.wide);
       top = omega (arith, heights, within.top, within.bottom, s.sides.high, r.sides.high);

@@ -1,11 +1,12 @@
 -- The key of a rectangle.
 use Rattle.std.specs.Prelude.{◌≡◌, ℕ, ◌+◌, ◌-◌, ◌*◌, ◌^◌, ◌<◌, ◌⊎◌}
+use Rattle.layout_limits.specs.declared.TheConstants.{MAX_SIDE}
 use Rattle.layout_geom.specs.declared.rect.Rect.{Rect}
 use Rattle.layout_geom.specs.Rectangles.{width_of, area_of}
 
 -- four digits: the area, then the distances of y0, of x0 and of the width from their greatest values
 unfoldable pub rect_key : Rect → ℕ
-rect_key r = (area_of r - 1) * 2 ^ 39 + (8191 - r.y0) * 2 ^ 26 + (8191 - r.x0) * 2 ^ 13 + (8192 - width_of r)
+rect_key r = (area_of r - 1) * 2 ^ 39 + (MAX_SIDE - 1 - r.y0) * 2 ^ 26 + (MAX_SIDE - 1 - r.x0) * 2 ^ 13 + (MAX_SIDE - width_of r)
 
 -- the first has the greater area, or else the lesser y0, or else the lesser x0, or else the lesser width
 abbrev pub Outranks : Rect → Rect → Type 0

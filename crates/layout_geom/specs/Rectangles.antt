@@ -40,6 +40,11 @@ pub record Encloses (r s : Rect) : Type 0 where
   pub right : s.x1 ≤ r.x1
   pub bottom : s.y1 ≤ r.y1
 
+-- the least of the rectangles that are round something: each other one encloses it
+pub record IsLeastRect (Round : Rect → Type 0) (r : Rect) : Type 0 where
+  pub round : Round r
+  pub least : (other : Rect) → Round other → Encloses other r
+
 -- the first has every pixel of the second, which is what Encloses says of the sides
 abbrev pub HasPixelsOf : Rect → Rect → Type 0
 HasPixelsOf r s = (x y : ℕ) → HasPixel s x y → HasPixel r x y

@@ -3,7 +3,8 @@ ghost use Rattle.std.specs.Prelude.{◌≡◌, ◌<◌, ◌^◌, ◌++◌, ◌�
 
 use crate::area::Area;
 use crate::rect::Rect;
-use std::alloc::{AllocError as OutOfMemory, Global};
+use layout_limits::OutOfMemory;
+use std::alloc::Global;
 use std::marker::Model;
 
 /// The most items of a list.

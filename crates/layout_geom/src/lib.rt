@@ -14,4 +14,3 @@ pub use clear::is_clear;
 pub use items::{Areas, Items, Name, Numbers, Rects};
 pub use order::Order;
 pub use rect::Rect;
-pub use std::alloc::AllocError as OutOfMemory;

@@ -1,9 +1,14 @@
 //! A rectangle of pixels: its measures, its relations to others, its key, and its cut round a pivot.
 ghost use Rattle.layout_geom.specs.Sides.{AreSides};
 
+use layout_limits::{MAX_PIXELS, MAX_SIDE};
+
+/// The greatest column of a pixel, and the greatest row.
+const LAST: u16 = MAX_SIDE - 1;
+
 /// A half-open rectangle of pixels, which has the pixels `(x, y)` with `x0 <= x < x1` and
-/// `y0 <= y < y1`. It has at least one pixel and at most 33,554,432, and ends within 8192 columns
-/// and 8192 rows.
+/// `y0 <= y < y1`. It has at least one pixel and at most `layout_limits::MAX_PIXELS`, and ends
+/// within `layout_limits::MAX_SIDE` columns and as many rows.
 #[derive(Clone, Copy, Debug, PartialEq, Eq)]
 pub struct Rect {
     /// The first column.
@@ -21,26 +26,22 @@ impl Rect {
     ghost use Rattle.std.specs.Prelude.{◌≡◌, ◌≢◌, ℕ, ◌<◌, ◌≤◌, ◌^◌, Some, IfSome, IsSome, IfNone, IsTrue, ◌↔◌, Any};
     ghost use Rattle.layout_geom.specs.Sides.{AreSides};
     ghost use Rattle.layout_geom.specs.declared.rect.Rect.{Rect};
-    ghost use Rattle.layout_geom.specs.Rectangles.{width_of, height_of, area_of, Overlaps, SharesPixel, Encloses, HasPixelsOf, HasSides, hull_area, IsHull, IsPart, IsCut, HoldsIn};
+    ghost use Rattle.layout_geom.specs.Rectangles.{width_of, height_of, area_of, Overlaps, SharesPixel, Encloses, HasPixelsOf, HasSides};
+    ghost use Rattle.layout_geom.specs.Rectangles.{hull_area, IsHull, IsPart, IsCut, HoldsIn};
     ghost use Rattle.layout_geom.specs.Keys.{rect_key, Outranks};
 
-    /// The most pixels of a rectangle.
-    pub const MOST_PIXELS: u32 = 33_554_432;
-
-    /// The most columns of a page, and the most rows.
-    pub const MOST_SIDE: u16 = 8192;
-
     /// The rectangle of these sides. It is `None` exactly where they are no sides of a rectangle:
-    /// where one does not come before its opposite, ends behind 8192, or encloses too many pixels.
+    /// where one does not come before its opposite or ends behind `layout_limits::MAX_SIDE`, or where
+    /// they enclose more than `layout_limits::MAX_PIXELS` pixels.
     pub fn new(x0: u16, y0: u16, x1: u16, y1: u16) -> Option<Rect>
         ensures some { IfSome result (λ r. HasSides r x0 y0 x1 y1) }
         ensures exactly { IsSome result ↔ AreSides x0 y0 x1 y1 }
     {
         if x0 < x1
             && y0 < y1
-            && x1 <= Rect::MOST_SIDE
-            && y1 <= Rect::MOST_SIDE
-            && (x1 - x0) as u32 * (y1 - y0) as u32 <= Rect::MOST_PIXELS
+            && x1 <= MAX_SIDE
+            && y1 <= MAX_SIDE
+            && (x1 - x0) as u32 * (y1 - y0) as u32 <= MAX_PIXELS
         {
             Some(Rect { x0, y0, x1, y1 })
         } else {
@@ -113,9 +114,9 @@ impl Rect {
         self.x0 <= other.x0 && self.y0 <= other.y0 && other.x1 <= self.x1 && other.y1 <= self.y1
     }
 
-    /// The least rectangle round both, which may have at most 33,554,432 pixels.
+    /// The least rectangle round both, which may have at most `layout_limits::MAX_PIXELS` pixels.
     pub fn hull(&self, other: &Rect) -> Rect
-        requires { hull_area self.now other.now ≤ 33554432 }
+        requires { hull_area self.now other.now ≤ MAX_PIXELS }
         ensures sides { IsHull self.now other.now result }
         ensures first { Encloses result self.now }
         ensures second { Encloses result other.now }
@@ -144,9 +145,9 @@ impl Rect {
         ensures inside { (inner : Rect) → Encloses self.now inner → inner ≢ self.now → rect_key inner < result }
     {
         (self.area() as u64 - 1) * (1 << 39)
-            + (8191 - self.y0 as u64) * (1 << 26)
-            + (8191 - self.x0 as u64) * (1 << 13)
-            + (8192 - self.width() as u64)
+            + (LAST - self.y0) as u64 * (1 << 26)
+            + (LAST - self.x0) as u64 * (1 << 13)
+            + (MAX_SIDE - self.width()) as u64
     }
 
     /// The rectangle that has the key. It is `None` exactly where no rectangle has it.
@@ -155,15 +156,15 @@ impl Rect {
         ensures none { IfNone result ((r : Rect) → rect_key r ≡ key → ⊥) }
         ensures back { (r : Rect) → rect_key r ≡ key → result ≡ Some r }
     {
-        let width = 8192 - (key % (1 << 13)) as u16;
-        let x0 = 8191 - (key / (1 << 13) % (1 << 13)) as u16;
-        let y0 = 8191 - (key / (1 << 26) % (1 << 13)) as u16;
+        let width = MAX_SIDE - (key % (1 << 13)) as u16;
+        let x0 = LAST - (key / (1 << 13) % (1 << 13)) as u16;
+        let y0 = LAST - (key / (1 << 26) % (1 << 13)) as u16;
         let area = (key / (1 << 39)) as u32 + 1;
         if area % width as u32 != 0 {
             return None;
         }
         let y1 = y0 as u32 + area / width as u32;
-        if y1 > Rect::MOST_SIDE as u32 {
+        if y1 > MAX_SIDE as u32 {
             return None;
         }
         Rect::new(x0, y0, x0 + width, y1 as u16)

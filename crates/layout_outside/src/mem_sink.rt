@@ -1,9 +1,11 @@
 //! A sink over memory, with room made before, which fails at the calls that it is told to fail at.
 ghost use Rattle.std.specs.Prelude.{◌≡◌, ℕ, ◌+◌, ◌-◌, ◌<◌, ◌≤◌, ◌↔◌, ◌⊎◌, List, [], ◌++◌, length, take, min, Some, IsOk, IfOk, OnOk, IsErr, OnErr, Contains, vec_len, vec_capacity};
-ghost use Rattle.layout_outside.specs.Causes.{HasCause, next_count};
+ghost use Rattle.layout_outside.specs.Causes.{next_count};
+ghost use Rattle.layout_outside.specs.Views.{IsWrite};
 
 use crate::device::{Failed, Sink};
-use std::alloc::{AllocError as OutOfMemory, Global};
+use layout_limits::OutOfMemory;
+use std::alloc::Global;
 
 /// Keeps what is written, within room that was made before.
 ///
@@ -36,7 +38,7 @@ impl MemSink {
         fails: Vec<u64>,
     ) -> Result<MemSink, OutOfMemory>
         requires { 0 < piece }
-        ensures written { IfOk result (λ sink. ⟦<MemSink as Sink>⟧.written sink ≡ Some []) }
+        ensures written { IfOk result (λ sink. (⟦<MemSink as Sink>⟧.view sink).written ≡ Some []) }
         ensures given { IfOk result (λ sink.
             (sink.room ≡ room) × (sink.piece ≡ piece) × (sink.fails ≡ fails)) }
         ensures unused { IfOk result (λ sink. (sink.calls ≡ 0) × (sink.faults ≡ 0)) }
@@ -56,26 +58,21 @@ impl MemSink {
 
     /// What was written.
     pub fn as_slice(&self) -> &[u8]
-        ensures { ⟦<MemSink as Sink>⟧.written self.now ≡ Some result.now }
+        ensures { (⟦<MemSink as Sink>⟧.view self.now).written ≡ Some result.now }
     {
         self.bytes.as_slice()
     }
 }
 
 impl Sink for MemSink {
-    ghost written = { λ s. Some s.bytes.items };
+    ghost use Rattle.layout_outside.specs.MemSink.{sink_view};
 
-    ghost faults = { λ s. s.faults };
+    ghost view = { sink_view };
 
     /// Takes as many bytes as the piece, the room left and the text offered allow.
     fn write(&mut self, piece: &[u8]) -> Result<usize, Failed>
         requires { 0 < length piece.now }
-        ensures some { IfOk result (λ count. 0 < count) }
-        ensures bound { IfOk result (λ count. count ≤ length piece.now) }
-        ensures bytes { IfOk result (λ count.
-            self.new.bytes.items ≡ self.old.bytes.items ++ take count piece.now) }
-        ensures err { OnErr result (self.new.bytes.items ≡ self.old.bytes.items) }
-        ensures cause { HasCause self.old.faults self.new.faults result }
+        ensures writes { IsWrite (sink_view self.old) (sink_view self.new) piece.now result }
 
         // It fails at the calls that it is told and where no room is left, and at no other.
         ensures fails { IsErr result ↔ (Contains self.old.fails.items self.old.calls

@@ -1,6 +1,7 @@
 //! A source over memory, which fails at the calls that it is told to fail at.
-ghost use Rattle.std.specs.Prelude.{◌≡◌, ℕ, ◌+◌, ◌-◌, ◌<◌, ◌≤◌, ◌↔◌, [], ◌++◌, length, take, drop, min, Some, IfOk, OnOk, IsErr, OnErr, Contains, vec_len};
-ghost use Rattle.layout_outside.specs.Causes.{HasCause, next_count};
+ghost use Rattle.std.specs.Prelude.{◌≡◌, ℕ, ◌+◌, ◌-◌, ◌<◌, ◌≤◌, ◌↔◌, [], ◌++◌, length, take, drop, min, Some, IfOk, OnOk, IsErr, OnErr, false, Contains, vec_len};
+ghost use Rattle.layout_outside.specs.Causes.{next_count};
+ghost use Rattle.layout_outside.specs.Views.{IsRead};
 
 use crate::device::{Failed, Source};
 
@@ -21,6 +22,8 @@ pub struct MemSource {
     pub fails: Vec<u64>,
     /// How many calls failed.
     pub faults: u64,
+    /// The last call that did not fail answered the end.
+    pub ended: bool,
     ghost within: { at ≤ vec_len bytes },
     ghost takes_some: { 0 < piece },
 }
@@ -29,9 +32,9 @@ impl MemSource {
     /// A source of these bytes, of which none was handed out yet.
     pub fn new(bytes: Vec<u8>, piece: usize, fails: Vec<u64>) -> MemSource
         requires { 0 < piece }
-        ensures left { ⟦<MemSource as Source>⟧.left result ≡ Some bytes.items }
+        ensures left { (⟦<MemSource as Source>⟧.view result).left ≡ Some bytes.items }
         ensures given { (result.bytes ≡ bytes) × (result.piece ≡ piece) × (result.fails ≡ fails) }
-        ensures unused { (result.at ≡ 0) × (result.calls ≡ 0) × (result.faults ≡ 0) }
+        ensures unused { (result.at ≡ 0) × (result.calls ≡ 0) × (result.faults ≡ 0) × (result.ended ≡ false) }
     {
         MemSource {
             bytes,
@@ -40,26 +43,20 @@ impl MemSource {
             calls: 0,
             fails,
             faults: 0,
+            ended: false,
         }
     }
 }
 
 impl Source for MemSource {
-    ghost use Rattle.layout_outside.specs.MemSource.{bytes_left};
+    ghost use Rattle.layout_outside.specs.MemSource.{source_view};
 
-    ghost left = { λ s. Some (bytes_left s) };
-
-    ghost faults = { λ s. s.faults };
+    ghost view = { source_view };
 
     /// Hands out as many bytes as the piece, what is left and the buffer allow.
     fn read(&mut self, buf: &mut [u8]) -> Result<usize, Failed>
         requires { 0 < length buf.old }
-        ensures bound { IfOk result (λ count. count ≤ length buf.new) }
-        ensures bytes { IfOk result (λ count.
-            bytes_left self.old ≡ take count buf.new ++ bytes_left self.new) }
-        ensures end { IfOk result (λ count. count ≡ 0 → bytes_left self.new ≡ []) }
-        ensures err { OnErr result (bytes_left self.new ≡ bytes_left self.old) }
-        ensures cause { HasCause self.old.faults self.new.faults result }
+        ensures reads { IsRead (source_view self.old) (source_view self.new) buf.new result }
 
         // It fails at the calls that it is told, and at no other.
         ensures fails { IsErr result ↔ Contains self.old.fails.items self.old.calls }
@@ -89,6 +86,7 @@ impl Source for MemSource {
         let end = self.at + count;
         buf[..count].copy_from_slice(&self.bytes[self.at..end]);
         self.at = end;
+        self.ended = count == 0;
         Ok(count)
     }
 }

@@ -4,14 +4,14 @@ ghost use Rattle.std.specs.Prelude.{◌≡◌, ◌≤◌, ◌∷◌, [], All, If
 ghost use Rattle.box_search.specs.Leasing.{entry_of, above};
 ghost use Rattle.std.specs.List.Sorted.{IsPermutation};
 ghost use Rattle.frontier_turn.specs.Callers.{IsOwn};
-ghost use Rattle.frontier_turn.specs.Holding.{Replaces};
-ghost use Rattle.lease_workers.specs.Working.{NamesOnly};
+ghost use Rattle.frontier_turn.specs.Holding.{NamesOnly, Replaces};
 
 use crate::gate::Gate;
 use bound_word::BoundWord;
-use box_search::{Lease, Node, OutOfMemory, Space, Step, Take, Unfinished};
+use box_search::{Lease, Node, Space, Step, Take, Unfinished};
 use crossbeam_utils::sync::EventCount;
 use frontier_turn::{Pass, Shared};
+use layout_limits::OutOfMemory;
 use std::alloc::Global;
 use std::sync::Wait;
 
@@ -108,7 +108,8 @@ impl<'a, 's, S: Space, R: Wait, G: Gate> Crew<'a, 's, S, R, G> {
         ensures rest { pass.new.view.rest ≡ pass.old.view.rest }
         ensures seen { IfOk result (λ found. found.0 ≤ pass.new.view.seen) }
         ensures fits { IfOk result (λ found. All (S.fits self.now.shared.now.problem) found.1.items) }
-        ensures replaces { let p = self.now.shared.now.problem in IfOk result (λ found. Replaces (S.admits p) (S.lies_in p) node.now.shape found.0 found.1.items) }
+        ensures replaces { let p = self.now.shared.now.problem in
+            IfOk result (λ found. Replaces (S.admits p) (S.lies_in p) node.now.shape found.0 found.1.items) }
     {
         let word = self.shared.read(pass);
         if node.bound <= word {

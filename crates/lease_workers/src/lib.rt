@@ -4,9 +4,7 @@
 
 mod crew;
 mod gate;
-#[cfg(test)]
-mod tests;
 mod workers;
 
 pub use gate::{Gate, OpenGate};
-pub use workers::Workers;
+pub use workers::{MAX_WORKERS, Workers};

@@ -6,13 +6,17 @@ ghost use Rattle.frontier_turn.specs.Callers.{IsOwn};
 
 use crate::crew::Crew;
 use crate::gate::Gate;
-use box_search::{Alone, OutOfMemory, Searcher, Space};
+use box_search::{Alone, Searcher, Space};
 use crossbeam_utils::sync::EventCount;
-use frontier_turn::{Pass, Shared};
+use frontier_turn::{Pass, Shared, each_step_keeps_the_rule};
+use layout_limits::OutOfMemory;
 use std::alloc::Global;
 use std::marker::{Model, PhantomData};
 use std::sync::Wait;
 use std::thread::{Threads, join};
+
+/// The most workers of one search.
+pub const MAX_WORKERS: u32 = 64;
 
 /// A search by several workers on one frontier, each in a thread of its own, or one after the other where no thread can
 /// be made. Each worker passes a gate before each of its turns.
@@ -27,18 +31,19 @@ pub struct Workers<'g, R, G> {
 
 impl<'g, R, G> Model for Workers<'g, R, G> {
     ghost use Rattle.std.specs.Prelude.{ℕ, ◌≤◌};
+    ghost use Rattle.lease_workers.specs.declared.workers.TheConstants.{MAX_WORKERS};
 
     ghost Value = { ℕ };
 
     ghost view = { λ workers. workers.count };
 
-    ghost invariant = { λ workers. (1 ≤ workers.count) × (workers.count ≤ 64) };
+    ghost invariant = { λ workers. (1 ≤ workers.count) × (workers.count ≤ MAX_WORKERS) };
 }
 
 impl<'g, R: Threads + Wait + Sync, G: Gate> Workers<'g, R, G> {
-    /// 1 to 64 workers.
+    /// A search by 1 to `MAX_WORKERS` workers.
     pub fn new(count: u32, gate: &'g G) -> Workers<'g, R, G>
-        requires counts { (1 ≤ count) × (count ≤ 64) }
+        requires counts { (1 ≤ count) × (count ≤ MAX_WORKERS) }
         ensures count { result ≡ count }
     {
         Workers {
@@ -50,7 +55,8 @@ impl<'g, R: Threads + Wait + Sync, G: Gate> Workers<'g, R, G> {
 
     /// The greatest admitted key, or 0 exactly where no key is admitted, or want of memory, for every schedule. Where a
     /// worker is refused memory its lease goes back, and after that the search may be asked for again. It may wait; what
-    /// it promises holds if it returns.
+    /// it promises holds if it returns. What the workers share meets the rule of the shared search between any two of
+    /// their steps: `frontier_turn::each_step_keeps_the_rule` states it.
     ///
     /// A single worker searches on this thread as `Alone` does, and passes no gate.
     pub fn best<S: Space>(&mut self, alloc: Global, run: &R, space: &S) -> Result<u64, OutOfMemory>
@@ -61,6 +67,7 @@ impl<'g, R: Threads + Wait + Sync, G: Gate> Workers<'g, R, G> {
             // One worker shares with nobody, so it searches as it would alone.
             return Alone.best(alloc, space);
         }
+        each_step_keeps_the_rule::<S>();
         let root = space.root(alloc)?;
         let (search, pass) = Shared::start(alloc, space, root)?;
         let news = EventCount::new();
@@ -93,7 +100,7 @@ fn work_together<S: Space, R: Threads + Wait + Sync, G: Gate>(
     requires own { IsOwn crew.now.shared.now pass }
     requires unnamed { pass.view.rest.leases ≡ [] }
     requires some { 1 ≤ count }
-    requires numbers { first + count ≤ 64 }
+    requires numbers { first + count ≤ MAX_WORKERS }
     requires parts { count ≤ pass.view.rest.parts }
     ensures own { IsOwn crew.now.shared.now result }
     ensures parts { result.view.rest.parts ≡ pass.view.rest.parts }
@@ -109,12 +116,18 @@ fn work_together<S: Space, R: Threads + Wait + Sync, G: Gate>(
     let (mut pass, other) = join(
         crew.rt,
         || -> Pass<S>
-            requires { IsSync R.row × (crew.now.shared.now.problem ≡ S.problem crew.now.space.now) × IsOwn crew.now.shared.now pass × (pass.view.rest.leases ≡ []) × (1 ≤ mine) × (first + mine ≤ 64) × (mine ≤ pass.view.rest.parts) }
-            ensures { IsOwn crew.entry.now.shared.now result × (result.view.rest.parts ≡ pass.view.rest.parts) × (result.view.rest.leases ≡ []) }
+            requires { IsSync R.row × (crew.now.shared.now.problem ≡ S.problem crew.now.space.now)
+                × IsOwn crew.now.shared.now pass × (pass.view.rest.leases ≡ [])
+                × (1 ≤ mine) × (first + mine ≤ MAX_WORKERS) × (mine ≤ pass.view.rest.parts) }
+            ensures { IsOwn crew.entry.now.shared.now result
+                × (result.view.rest.parts ≡ pass.view.rest.parts) × (result.view.rest.leases ≡ []) }
         { work_together(crew, alloc, pass, first, mine) },
         || -> Pass<S>
-            requires { IsSync R.row × (crew.now.shared.now.problem ≡ S.problem crew.now.space.now) × IsOwn crew.now.shared.now other × (other.view.rest.leases ≡ []) × (1 ≤ others) × (first + mine + others ≤ 64) × (others ≤ other.view.rest.parts) }
-            ensures { IsOwn crew.entry.now.shared.now result × (result.view.rest.parts ≡ other.view.rest.parts) × (result.view.rest.leases ≡ []) }
+            requires { IsSync R.row × (crew.now.shared.now.problem ≡ S.problem crew.now.space.now)
+                × IsOwn crew.now.shared.now other × (other.view.rest.leases ≡ [])
+                × (1 ≤ others) × (first + mine + others ≤ MAX_WORKERS) × (others ≤ other.view.rest.parts) }
+            ensures { IsOwn crew.entry.now.shared.now result
+                × (result.view.rest.parts ≡ other.view.rest.parts) × (result.view.rest.leases ≡ []) }
         { work_together(crew, alloc, other, first + mine, others) },
     );
     crew.shared.join(&mut pass, other);

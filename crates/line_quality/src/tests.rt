@@ -5,7 +5,8 @@ use crate::{
     Score, column, crosses, greatest, height_at, line_key, middle, point_of, score_at, weight,
     weight_at,
 };
-use layout_geom::{Numbers, OutOfMemory, Rect, Rects};
+use layout_geom::{Numbers, Rect, Rects};
+use layout_limits::OutOfMemory;
 use std::alloc::Global;
 use std::test::Fail;
 

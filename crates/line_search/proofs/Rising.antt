@@ -9,7 +9,7 @@ use Rattle.layout_geom.specs.declared.rect.Rect.{Rect}
 use Rattle.components.specs.declared.kept.Kept.{Kept}
 use Rattle.line_quality.specs.Scores.{is_of}
 use Rattle.line_search.specs.declared.line.Line.{Line}
-use Rattle.line_search.specs.Lines.{IsLineList, without, is_char_sized, characters_of}
+use Rattle.line_search.specs.Lines.{IsLineList, without, is_character, characters_of}
 
 range_rises : (a n : ℕ) → IsStrictlyIncreasing (range_with_len a n)
 range_rises a n = λ k below.
@@ -17,7 +17,7 @@ range_rises a n = λ k below.
     omega (arith, get_or-range_with_len a n k 0 (omega arith), get_or-range_with_len a n (k + 1) 0 within)
 
 pub characters_rise : (kept : Kept) → IsStrictlyIncreasing (characters_of kept)
-characters_rise kept = IsStrictlyIncreasing-filter (λ position. is_char_sized kept.median (slice_get kept.boxes position)) (range_with_len 0 (length kept.boxes)) (range_rises 0 (length kept.boxes))
+characters_rise kept = IsStrictlyIncreasing-filter (λ position. is_character kept.median (slice_get kept.boxes position)) (range_with_len 0 (length kept.boxes)) (range_rises 0 (length kept.boxes))
 
 abbrev MembersRise : Line → Type 0
 MembersRise line = IsStrictlyIncreasing line.members

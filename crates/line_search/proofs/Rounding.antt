@@ -1,6 +1,5 @@
 -- The members of a line, and the least rectangle round them.
 use Rattle.std.proofs.Common.{◌≡◌, ℕ, zero, suc, ◌+◌, ◌-◌, ◌*◌, ◌<◌, ◌≤◌, min, max, arith, refl, sym, ◌∙◌, ap, subst, List, [], ◌∷◌, ◌++◌, length, take, get_or, append-nil, Option, Some, slice_get, ℤ, Bool, true, false, not, All, IfSome}
-use Rattle.std.proofs.Math.Nat.{mul-le-mul}
 use Rattle.std.proofs.lemmas.List.{take_all}
 use Rattle.std.proofs.lemmas.List.Elements.{filter_more, filter-append, All-get_or, All-more, All-weaker, All-nil, All-cons, All-head, All-tail}
 use Rattle.std.proofs.lemmas.Option.{IfSome_then}
@@ -46,14 +45,6 @@ pub chosen_no : (p : ℕ → Bool) (n : ℕ) → p n ≡ false → filter p (ran
 chosen_no p n fails =
     let none : filter p (n ∷ []) ≡ [] = rw fails refl in
     chosen_more p n ∙ ap (λ (ys : List ℕ). filter p (range_with_len 0 n) ++ ys) none ∙ append-nil (filter p (range_with_len 0 n))
-
--- rectangles inside one have a hull that is small enough
-pub hull_small : (outer r s : Rect) → Encloses outer r → Encloses outer s → (max r.x1 s.x1 - min r.x0 s.x0) * (max r.y1 s.y1 - min r.y0 s.y0) ≤ 33554432
-hull_small outer r s a b =
-    let wide : max r.x1 s.x1 - min r.x0 s.x0 ≤ outer.x1 - outer.x0 = omega (arith, a.left, a.right, b.left, b.right) in
-    let high : max r.y1 s.y1 - min r.y0 s.y0 ≤ outer.y1 - outer.y0 = omega (arith, a.top, a.bottom, b.top, b.bottom) in
-    let area : (max r.x1 s.x1 - min r.x0 s.x0) * (max r.y1 s.y1 - min r.y0 s.y0) ≤ (outer.x1 - outer.x0) * (outer.y1 - outer.y0) = mul-le-mul wide high in
-    omega (arith, area, outer.sides.small)
 
 abbrev pub IsHullOf : Rect → Rect → Rect → Type 0
 IsHullOf r s h = HasSides h (min r.x0 s.x0) (min r.y0 s.y0) (max r.x1 s.x1) (max r.y1 s.y1)

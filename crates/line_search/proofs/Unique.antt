@@ -3,27 +3,13 @@ use Rattle.std.proofs.Common.{◌≡◌, ◌∙◌, ℕ, ◌≤◌, ℤ, List, [
 use Rattle.std.proofs.Math.Nat.{le_antisymm}
 use Rattle.std.proofs.lemmas.Int.{ints}
 use Rattle.layout_geom.specs.declared.rect.Rect.{Rect}
-use Rattle.layout_geom.specs.Rectangles.{Encloses}
-use Rattle.layout_geom.specs.SameSides.{same_sides}
+use Rattle.layout_geom.specs.SameSides.{one_least}
 use Rattle.line_quality.specs.Points.{IsOffset}
 use Rattle.line_quality.specs.Scores.{IsScore, group_of}
 use Rattle.line_quality.specs.ScoreLaws.{same_score}
 use Rattle.line_quality.specs.KeyLaws.{SamePoint, same_point}
 use Rattle.line_search.specs.declared.line.Line.{Line}
-use Rattle.line_search.specs.Lines.{IsLeastRound, without, IsPoint, IsBestLine, IsLineList, characters_of, LinesAreUnique}
-
--- two rectangles that enclose one another
-same_box : (r s : Rect) → Encloses r s → Encloses s r → r ≡ s
-same_box r s outer inner =
-    same_sides r s (record {
-      left = omega (arith, outer.left, inner.left);
-      top = omega (arith, outer.top, inner.top);
-      right = omega (arith, outer.right, inner.right);
-      bottom = omega (arith, outer.bottom, inner.bottom);
-    })
-
-one_box : (boxes : List Rect) (positions : List ℕ) (r s : Rect) → IsLeastRound boxes positions r → IsLeastRound boxes positions s → r ≡ s
-one_box boxes positions r s is is' = same_box r s (is'.least r is.round) (is.least s is'.round)
+use Rattle.line_search.specs.Lines.{IsRound, IsLeastRound, without, IsPoint, IsBestLine, IsLineList, characters_of, LinesAreUnique}
 
 line_of : ℤ → ℤ → List ℕ → Rect → ℕ → Line
 line_of slope offset members bbox score = record { slope = slope; offset = offset; members = members; bbox = bbox; score = score }
@@ -64,7 +50,7 @@ module _ (boxes gutters : List Rect) (alive : List ℕ) where
         let there = best'.admissible.scored in
         let members : l.members ≡ m.members = best.members ∙ same_group l.slope m.slope l.offset m.offset l.score m.score here.in_column there.in_column point.slopes point.offsets here.scored there.scored ∙ sym best'.members in
         let least : IsLeastRound boxes m.members l.bbox = subst (λ (positions : List ℕ). IsLeastRound boxes positions l.bbox) members best.bbox in
-        same_parts l m point.slopes point.offsets members (one_box boxes m.members l.bbox m.bbox least best'.bbox) point.scores
+        same_parts l m point.slopes point.offsets members (one_least (IsRound boxes m.members) l.bbox m.bbox least best'.bbox) point.scores
 
 one_list : (boxes gutters : List Rect) (height : ℕ) → height ≤ 8192 → (alive : List ℕ) (xs ys : List Line) → IsLineList boxes gutters height alive xs → IsLineList boxes gutters height alive ys → xs ≡ ys
 one_list boxes gutters height high alive [] [] none none' = refl

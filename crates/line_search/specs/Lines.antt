@@ -1,9 +1,10 @@
 -- The lines of text of a page, each the best of the grid among the boxes that are in no line before it.
-use Rattle.std.specs.Prelude.{◌≡◌, ℕ, ◌+◌, ◌*◌, ◌≤◌, ℤ, pos, negsuc, ◌≤ℤ◌, Bool, false, not, ◌&&◌, ◌==◌, nat_le, List, [], ◌∷◌, Option, Some, None, slice_get, length, IfSome, All}
+use Rattle.std.specs.Prelude.{◌≡◌, ℕ, ◌+◌, ◌*◌, ◌≤◌, ℤ, pos, negsuc, ◌≤ℤ◌, Bool, false, not, ◌==◌, List, [], ◌∷◌, Option, Some, None, slice_get, length, IfSome, All}
 use Rattle.std.specs.List.{filter, list_any, range_with_len}
 use Rattle.layout_geom.specs.declared.rect.Rect.{Rect}
-use Rattle.layout_geom.specs.Rectangles.{width_of, height_of, Encloses}
+use Rattle.layout_geom.specs.Rectangles.{Encloses, IsLeastRect}
 use Rattle.components.specs.declared.kept.Kept.{Kept}
+use Rattle.components.specs.Kept.{is_char_sized}
 use Rattle.line_quality.specs.Points.{IsSlope}
 use Rattle.line_quality.specs.Scores.{IsScore, group_of}
 use Rattle.line_quality.specs.Keys.{line_key}
@@ -13,10 +14,9 @@ use Rattle.line_search.specs.declared.line.Line.{Line}
 abbrev pub IsRound : List Rect → List ℕ → Rect → Type 0
 IsRound boxes positions outer = All (λ position. IfSome (slice_get boxes position) (λ box. Encloses outer box)) positions
 
--- and each other rectangle that does encloses this one
-pub record IsLeastRound (boxes : List Rect) (positions : List ℕ) (r : Rect) : Type 0 where
-  pub round : IsRound boxes positions r
-  pub least : (outer : Rect) → IsRound boxes positions outer → Encloses outer r
+-- the least rectangle that does
+abbrev pub IsLeastRound : List Rect → List ℕ → Rect → Type 0
+IsLeastRound boxes positions r = IsLeastRect (IsRound boxes positions) r
 
 -- the positions that are left without the members of a line
 abbrev pub without : List ℕ → List ℕ → List ℕ
@@ -56,14 +56,14 @@ module _ (boxes gutters : List Rect) (height : ℕ) where
   IsLineList alive [] = HasNoLine alive
   IsLineList alive (line ∷ lines) = IsBestLine alive line × IsLineList (without line.members alive) lines
 
--- the sides are those of a character on a page of this median height
-abbrev pub is_char_sized : ℕ → Option Rect → Bool
-is_char_sized median (Some r) = nat_le median (2 * height_of r) && nat_le (height_of r) (3 * median) && nat_le (width_of r) (6 * median)
-is_char_sized median None = false
+-- there is a box, which has about the size of a character on a page of this median height
+abbrev pub is_character : ℕ → Option Rect → Bool
+is_character median (Some r) = is_char_sized r median
+is_character median None = false
 
 -- the positions, in rising order, of the kept boxes that have the size of a character
 abbrev pub characters_of : Kept → List ℕ
-characters_of kept = filter (λ position. is_char_sized kept.median (slice_get kept.boxes position)) (range_with_len 0 (length kept.boxes))
+characters_of kept = filter (λ position. is_character kept.median (slice_get kept.boxes position)) (range_with_len 0 (length kept.boxes))
 
 -- the lines of a page, the best first
 abbrev pub AreLinesOf : Kept → List Rect → ℕ → List Line → Type 0

@@ -4,12 +4,13 @@ ghost use Rattle.line_search.specs.Lines;
 ghost use Rattle.line_search.specs.Lines.{characters_of};
 
 use components::{Kept, is_char_sized};
-use layout_geom::{Numbers, OutOfMemory, Rect};
+use layout_geom::{Numbers, Rect};
+use layout_limits::OutOfMemory;
 use std::alloc::Global;
 
 /// Whether a box has about the size of a character.
 fn is_character(rect: &Rect, median: u16) -> bool
-    ensures { result ≡ Lines.is_char_sized median (Some rect.now) }
+    ensures { result ≡ Lines.is_character median (Some rect.now) }
 {
     is_char_sized(rect, median)
 }

@@ -11,7 +11,8 @@ use crate::line::Lines;
 use crate::windows::{first_windows, greatest_key, searched_again};
 use box_search::Searcher;
 use components::Kept;
-use layout_geom::{OutOfMemory, Rects};
+use layout_geom::Rects;
+use layout_limits::OutOfMemory;
 use std::alloc::Global;
 
 /// The rectangles, in a list of their own.

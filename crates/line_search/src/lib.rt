@@ -20,6 +20,6 @@ mod windows;
 pub use greedy::lines;
 pub use grid::Grid;
 pub use law::lines_are_unique;
-pub use layout_geom::OutOfMemory;
+pub use layout_limits::OutOfMemory;
 pub use line::{Line, Lines};
 pub use span::Span;

@@ -6,7 +6,8 @@ ghost use Rattle.layout_geom.specs.Rectangles.{Encloses};
 ghost use Rattle.line_quality.specs.Scores.{group_of, is_of};
 ghost use Rattle.line_search.specs.Lines.{IsLeastRound};
 
-use layout_geom::{Numbers, OutOfMemory, Rect, Rects};
+use layout_geom::{Numbers, Rect, Rects};
+use layout_limits::OutOfMemory;
 use line_quality::{column, middle, weight};
 use std::alloc::Global;
 

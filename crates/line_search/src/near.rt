@@ -9,7 +9,8 @@ ghost use Rattle.line_search.specs.Shapes.{IsInGrid};
 use crate::bound::{all_cross, reach};
 use crate::span::Span;
 use box_search::Shape;
-use layout_geom::{OutOfMemory, Rect, Rects};
+use layout_geom::{Rect, Rects};
+use layout_limits::OutOfMemory;
 use line_quality::{COLUMNS, Score, greatest, middle};
 use std::alloc::Global;
 

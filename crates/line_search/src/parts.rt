@@ -7,7 +7,7 @@ ghost use Rattle.line_search.specs.Parts.{AreHalves};
 
 use crate::span::Span;
 use box_search::{Node, Shape};
-use layout_geom::OutOfMemory;
+use layout_limits::OutOfMemory;
 use std::alloc::Global;
 
 /// The middle of a range, rounded towards the lesser number.

@@ -3,7 +3,8 @@ ghost use Rattle.std.specs.Prelude.{◌≡◌, ◌<◌, ◌≤◌, false, IfOk, 
 ghost use Rattle.line_search.specs.Windows;
 ghost use Rattle.line_search.specs.Windows.{stands_in, IsMargin, AreRound};
 
-use layout_geom::{Numbers, OutOfMemory, Rect, Rects};
+use layout_geom::{Numbers, Rect, Rects};
+use layout_limits::OutOfMemory;
 use line_quality::middle;
 use std::alloc::Global;
 

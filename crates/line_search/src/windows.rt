@@ -14,7 +14,7 @@ ghost use Rattle.line_search.specs.Windows.{stands_in, within, IsSearched, AreRo
 use crate::grid::Grid;
 use crate::rows::{Rows, all_rows, has_one, standing};
 use box_search::Searcher;
-use layout_geom::OutOfMemory;
+use layout_limits::OutOfMemory;
 use std::alloc::Global;
 
 /// The rows of a search, and the greatest key of the lines among the boxes alone whose feet stand there.

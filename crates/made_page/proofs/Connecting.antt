@@ -3,7 +3,7 @@ use Rattle.std.proofs.Common.{◌≡◌, ℕ, zero, suc, ◌+◌, ◌-◌, ◌<�
 use Rattle.std.proofs.lemmas.Bool.Decides.{nat_tests}
 use Rattle.std.proofs.lemmas.List.Folds.{list_any_at}
 use Rattle.components.specs.declared.place.Place.{Place}
-use Rattle.components.specs.Connected.{IsBlack, IsNear, IsPath, IsConnected}
+use Rattle.components.specs.Connected.{IsBlack, AreNeighbours, IsPath, IsConnected}
 use Rattle.made_page.specs.declared.block.Block.{Block}
 use Rattle.made_page.specs.Made.{has_place, page_of_blocks}
 
@@ -77,7 +77,7 @@ path_inside (suc n) blocks i d p q below here there near =
       above = omega (arith, near.above, near.below);
       below = omega (arith, near.above, near.below);
     } in
-    let step : IsNear p s = record { left = omega arith; right = omega arith; above = omega arith; below = omega arith } in
+    let step : AreNeighbours p s = record { left = omega arith; right = omega arith; above = omega arith; below = omega arith } in
     let rest : Path blocks s q = path_inside n blocks i d s q below between there nearer in
     (s ∷ rest.0, (step, black_inside blocks i d s below between, rest.1))
 

@@ -60,10 +60,10 @@ fn missing_byte(state: HeaderState, at: u64) -> PageFault
 
 /// Reads a header to its last byte, whatever sizes it says.
 fn read_told<S: Source>(src: &mut S, feed: &mut Feed) -> Result<Told, PageFault>
-    ensures told { IfOk result (TookSizes (left_of (S.left src.old) feed.old) (left_of (S.left src.new) feed.new)) }
-    ensures fault { IfErr result (Refuses (left_of (S.left src.old) feed.old) (left_of (S.left src.new) feed.new)) }
+    ensures told { IfOk result (TookSizes (left_of (S.view src.old).left feed.old) (left_of (S.view src.new).left feed.new)) }
+    ensures fault { IfErr result (Refuses (left_of (S.view src.old).left feed.old) (left_of (S.view src.new).left feed.new)) }
     ensures drained { result ≡ Err PageFault.ReadFault → feed.new ≡ [] }
-    ensures cause { HasReadCause (S.faults src.old) (S.faults src.new) result }
+    ensures cause { HasReadCause (S.view src.old).faults (S.view src.new).faults result }
 {
     let mut state = HeaderState::Magic;
     for at in 0..MAX_HEADER {
@@ -108,10 +108,10 @@ fn page_size(width: u32, height: u32) -> Result<Size, PageFault>
 
 /// Reads a header, with sizes that a page can have.
 pub(crate) fn read_header<S: Source>(src: &mut S, feed: &mut Feed) -> Result<Header, PageFault>
-    ensures header { IfOk result (TookHeader (left_of (S.left src.old) feed.old) (left_of (S.left src.new) feed.new)) }
-    ensures fault { IfErr result (Refuses (left_of (S.left src.old) feed.old) (left_of (S.left src.new) feed.new)) }
+    ensures header { IfOk result (TookHeader (left_of (S.view src.old).left feed.old) (left_of (S.view src.new).left feed.new)) }
+    ensures fault { IfErr result (Refuses (left_of (S.view src.old).left feed.old) (left_of (S.view src.new).left feed.new)) }
     ensures drained { result ≡ Err PageFault.ReadFault → feed.new ≡ [] }
-    ensures cause { HasReadCause (S.faults src.old) (S.faults src.new) result }
+    ensures cause { HasReadCause (S.view src.old).faults (S.view src.new).faults result }
 {
     let told = read_told(src, feed)?;
     let size = page_size(told.width, told.height)?;

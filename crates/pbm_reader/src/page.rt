@@ -32,18 +32,18 @@ pub fn read_page<S: Source, R: RowSink>(
     rows: &mut R,
 ) -> Result<Size, PageFault>
     // The input was read to its end, it spells a page, and the sink was given the page.
-    ensures page { IfOk result (ReadsPage R.begun R.given (S.left src.old) (S.left src.new) rows.old rows.new) }
+    ensures page { IfOk result (ReadsPage R.begun R.given (S.view src.old).left (S.view src.new).left rows.old rows.new) }
     // The input has just this fault; or a read failed, and the bytes taken decide no fault.
-    ensures fault { IfErr result (Refuses (S.left src.old) (S.left src.new)) }
+    ensures fault { IfErr result (Refuses (S.view src.old).left (S.view src.new).left) }
     // After a fault the sink was given nothing, or top rows of the page that the input begins.
-    ensures top { OnErr result (AfterFault R.begun R.given R.unchanged (S.left src.old) rows.old rows.new) }
-    ensures cause { HasReadCause (S.faults src.old) (S.faults src.new) result }
+    ensures top { OnErr result (AfterFault R.begun R.given R.unchanged (S.view src.old).left rows.old rows.new) }
+    ensures cause { HasReadCause (S.view src.old).faults (S.view src.new).faults result }
     // Where the input spells a page and no read failed, the page is read unless memory is refused.
-    ensures complete { (input : List ℕ) → S.left src.old ≡ Some input → IsPage input
-        → ¬ Rose (S.faults src.old) (S.faults src.new) → IsOkUnless result PageFault.Memory }
+    ensures complete { (input : List ℕ) → (S.view src.old).left ≡ Some input → IsPage input
+        → ¬ Rose (S.view src.old).faults (S.view src.new).faults → IsOkUnless result PageFault.Memory }
     // Where the input has a fault and no read failed, that fault is answered unless memory is refused.
-    ensures faulty { (input : List ℕ) (fault : PageFault) → S.left src.old ≡ Some input → HasFault input fault
-        → ¬ Rose (S.faults src.old) (S.faults src.new) → AnswersFault fault result }
+    ensures faulty { (input : List ℕ) (fault : PageFault) → (S.view src.old).left ≡ Some input → HasFault input fault
+        → ¬ Rose (S.view src.old).faults (S.view src.new).faults → AnswersFault fault result }
 {
     let mut feed = Feed::new(alloc)?;
     read_from(alloc, src, &mut feed, rows)
@@ -56,12 +56,12 @@ fn read_from<S: Source, R: RowSink>(
     feed: &mut Feed,
     rows: &mut R,
 ) -> Result<Size, PageFault>
-    ensures page { IfOk result (ReadsPage R.begun R.given (left_of (S.left src.old) feed.old)
-        (left_of (S.left src.new) feed.new) rows.old rows.new) }
-    ensures fault { IfErr result (Refuses (left_of (S.left src.old) feed.old) (left_of (S.left src.new) feed.new)) }
-    ensures top { OnErr result (AfterFault R.begun R.given R.unchanged (left_of (S.left src.old) feed.old) rows.old rows.new) }
+    ensures page { IfOk result (ReadsPage R.begun R.given (left_of (S.view src.old).left feed.old)
+        (left_of (S.view src.new).left feed.new) rows.old rows.new) }
+    ensures fault { IfErr result (Refuses (left_of (S.view src.old).left feed.old) (left_of (S.view src.new).left feed.new)) }
+    ensures top { OnErr result (AfterFault R.begun R.given R.unchanged (left_of (S.view src.old).left feed.old) rows.old rows.new) }
     ensures drained { result ≡ Err PageFault.ReadFault → feed.new ≡ [] }
-    ensures cause { HasReadCause (S.faults src.old) (S.faults src.new) result }
+    ensures cause { HasReadCause (S.view src.old).faults (S.view src.new).faults result }
 {
     let header = read_header(src, feed)?;
     rows.begin(header.size.width, header.size.height)?;
@@ -83,14 +83,14 @@ fn read_raster<S: Source, R: RowSink>(
     requires size { IsPageSize header.size.width header.size.height }
     requires width { R.width_of rows.old ≡ header.size.width }
     requires rows { R.rows_left rows.old ≡ header.size.height }
-    ensures ok { IfOk result (λ end. TookRaster R.given (left_of (S.left src.old) feed.old)
-        (left_of (S.left src.new) feed.new) header.form header.size.width header.size.height header.len end rows.old rows.new) }
-    ensures fault { IfErr result (RasterFails (left_of (S.left src.old) feed.old)
-        (left_of (S.left src.new) feed.new) header.form header.size.width header.size.height header.len) }
+    ensures ok { IfOk result (λ end. TookRaster R.given (left_of (S.view src.old).left feed.old)
+        (left_of (S.view src.new).left feed.new) header.form header.size.width header.size.height header.len end rows.old rows.new) }
+    ensures fault { IfErr result (RasterFails (left_of (S.view src.old).left feed.old)
+        (left_of (S.view src.new).left feed.new) header.form header.size.width header.size.height header.len) }
     ensures top { OnErr result (GivenTopRows R.given R.unchanged header.form header.size.width header.size.height
-        (left_of (S.left src.old) feed.old) rows.old rows.new) }
+        (left_of (S.view src.old).left feed.old) rows.old rows.new) }
     ensures drained { result ≡ Err PageFault.ReadFault → feed.new ≡ [] }
-    ensures cause { HasReadCause (S.faults src.old) (S.faults src.new) result }
+    ensures cause { HasReadCause (S.view src.old).faults (S.view src.new).faults result }
 {
     match header.form {
         Form::Plain => read_plain_raster(alloc, src, feed, header, rows),

@@ -14,10 +14,10 @@ use layout_outside::Source;
 /// Reads the rest of an input, from this offset on, to its end, and drops it.
 fn skip_rest<S: Source>(src: &mut S, feed: &mut Feed, start: u64) -> Result<(), PageFault>
     requires low { start ≤ 268435456 }
-    ensures ok { OnOk result (TookRest (left_of (S.left src.old) feed.old) (left_of (S.left src.new) feed.new) start) }
-    ensures fault { IfErr result (RestFails (left_of (S.left src.old) feed.old) (left_of (S.left src.new) feed.new) start) }
+    ensures ok { OnOk result (TookRest (left_of (S.view src.old).left feed.old) (left_of (S.view src.new).left feed.new) start) }
+    ensures fault { IfErr result (RestFails (left_of (S.view src.old).left feed.old) (left_of (S.view src.new).left feed.new) start) }
     ensures drained { result ≡ Err PageFault.ReadFault → feed.new ≡ [] }
-    ensures cause { HasReadCause (S.faults src.old) (S.faults src.new) result }
+    ensures cause { HasReadCause (S.view src.old).faults (S.view src.new).faults result }
 {
     let mut left = MAX_INPUT - start;
     loop {
@@ -50,10 +50,10 @@ pub(crate) fn read_tail<S: Source>(
     start: u64,
 ) -> Result<(), PageFault>
     requires low { start ≤ 268435456 }
-    ensures ok { OnOk result (TookTail (left_of (S.left src.old) feed.old) (left_of (S.left src.new) feed.new) form start) }
-    ensures fault { IfErr result (TailFails (left_of (S.left src.old) feed.old) (left_of (S.left src.new) feed.new) form start) }
+    ensures ok { OnOk result (TookTail (left_of (S.view src.old).left feed.old) (left_of (S.view src.new).left feed.new) form start) }
+    ensures fault { IfErr result (TailFails (left_of (S.view src.old).left feed.old) (left_of (S.view src.new).left feed.new) form start) }
     ensures drained { result ≡ Err PageFault.ReadFault → feed.new ≡ [] }
-    ensures cause { HasReadCause (S.faults src.old) (S.faults src.new) result }
+    ensures cause { HasReadCause (S.view src.old).faults (S.view src.new).faults result }
 {
     let Some(byte) = next_byte(src, feed)? else {
         return Ok(());

@@ -4,19 +4,11 @@ use Rattle.std.specs.List.{range_with_len}
 use Rattle.std.specs.List.Sorted.{IsPermutation}
 use Rattle.std.proofs.lemmas.List.Sorted.{All-permutation}
 use Rattle.std.proofs.lemmas.List.FromFn.{get_or-range_with_len, length-range_with_len}
-use Rattle.std.proofs.lemmas.Nat.{mul-le}
 use Rattle.std.proofs.lemmas.Bool.{cases_lt}
 use Rattle.layout_geom.specs.declared.rect.Rect.{Rect}
 use Rattle.layout_geom.specs.declared.area.Area.{Area}
 use Rattle.layout_geom.specs.Rectangles.{Encloses, IsHull}
 use Rattle.reading_order.specs.Areas.{GoesOn, GoesOnAt, line_at, IsLeastRound, IsArea}
-
--- two rectangles of a page have a hull
-pub hull_small : (page r s : Rect) → Encloses page r → Encloses page s → (max r.x1 s.x1 - min r.x0 s.x0) * (max r.y1 s.y1 - min r.y0 s.y0) ≤ 33554432
-hull_small page r s first second =
-    let wide : max r.x1 s.x1 - min r.x0 s.x0 ≤ page.x1 - page.x0 = omega (arith, first.left, first.right, second.left, second.right) in
-    let high : max r.y1 s.y1 - min r.y0 s.y0 ≤ page.y1 - page.y0 = omega (arith, first.top, first.bottom, second.top, second.bottom) in
-    omega (arith, mul-le (max r.x1 s.x1 - min r.x0 s.x0) (max r.y1 s.y1 - min r.y0 s.y0) (page.x1 - page.x0) (page.y1 - page.y0) wide high, page.sides.small)
 
 hull_encloses : (r s h t : Rect) → IsHull r s h → Encloses r t → Encloses h t
 hull_encloses r s h t is in_r = record {
@@ -40,7 +32,7 @@ hull_least r s h other is first second = record {
 module _ (lines : List Rect) (listing : List ℕ) (from : ℕ) where
   pub round_one : (r : Rect) → ((d : Rect) → r ≡ line_at lines listing from d) → IsLeastRound lines listing from (from + 1) r
   round_one r is = record {
-    encloses = λ k d low high.
+    round = λ k d low high.
         let e : from ≡ k = omega (arith, low, high) in
         let P : ℕ → Type 0 = λ z. Encloses r (line_at lines listing z d) in
         let Q : Rect → Type 0 = λ w. Encloses r w in
@@ -51,8 +43,8 @@ module _ (lines : List Rect) (listing : List ℕ) (from : ℕ) where
 
   pub round_more : (last : ℕ) (r next h : Rect) → from ≤ last → IsLeastRound lines listing from last r → ((d : Rect) → next ≡ line_at lines listing last d) → IsHull r next h → IsLeastRound lines listing from (last + 1) h
   round_more last r next h some round is hull = record {
-    encloses = λ k d low high. ⊎_elim
-        (λ under. hull_encloses r next h (line_at lines listing k d) hull (round.encloses k d low under))
+    round = λ k d low high. ⊎_elim
+        (λ under. hull_encloses r next h (line_at lines listing k d) hull (round.round k d low under))
         (λ over.
         let e : last ≡ k = omega (arith, over, high) in
         let P : ℕ → Type 0 = λ z. Encloses h (line_at lines listing z d) in

@@ -3,19 +3,8 @@ use Rattle.std.proofs.Common.{◌≡◌, ℕ, ◌+◌, ◌*◌, ◌<◌, List, [
 use Rattle.std.proofs.lemmas.Bool.{cases_lt}
 use Rattle.layout_geom.specs.declared.rect.Rect.{Rect}
 use Rattle.layout_geom.specs.declared.area.Area.{Area}
-use Rattle.layout_geom.specs.Rectangles.{Encloses}
-use Rattle.layout_geom.specs.SameSides.{same_sides}
-use Rattle.reading_order.specs.Areas.{IsLeastRound, IsArea, AreAreasFrom, AreAreasOf}
-
--- two rectangles, each inside the other, are one
-one_box : (r s : Rect) → Encloses r s → Encloses s r → r ≡ s
-one_box r s first second =
-    same_sides r s (record {
-      left = omega (arith, first.left, second.left);
-      top = omega (arith, first.top, second.top);
-      right = omega (arith, first.right, second.right);
-      bottom = omega (arith, first.bottom, second.bottom);
-    })
+use Rattle.layout_geom.specs.SameSides.{one_least}
+use Rattle.reading_order.specs.Areas.{EnclosesLines, IsLeastRound, IsArea, AreAreasFrom, AreAreasOf}
 
 abbrev area_with : ℕ → ℕ → Rect → Area
 area_with first count bbox = record { first = first; count = count; bbox = bbox }
@@ -26,7 +15,7 @@ same_parts x y starts count bbox = cc (starts, count, bbox)
 
 module _ (lines : List Rect) (listing : List ℕ) (reach from : ℕ) where
   one_round : (last : ℕ) (r s : Rect) → IsLeastRound lines listing from last r → IsLeastRound lines listing from last s → r ≡ s
-  one_round last r s first second = one_box r s (second.least r first.encloses) (first.least s second.encloses)
+  one_round last r s first second = one_least (EnclosesLines lines listing from last) r s first second
 
   -- an area is not cut where another goes on
   not_shorter : (x y : Area) → IsArea lines listing reach from x → IsArea lines listing reach from y → x.count < y.count → ⊥

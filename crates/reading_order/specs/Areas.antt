@@ -2,7 +2,7 @@
 use Rattle.std.specs.Prelude.{◌≡◌, ℕ, ◌+◌, ◌-◌, ◌*◌, ◌<◌, ◌≤◌, List, [], ◌∷◌, length, slice_index, slice_index_or}
 use Rattle.layout_geom.specs.declared.rect.Rect.{Rect}
 use Rattle.layout_geom.specs.declared.area.Area.{Area}
-use Rattle.layout_geom.specs.Rectangles.{Encloses}
+use Rattle.layout_geom.specs.Rectangles.{Encloses, IsLeastRect}
 use Rattle.reading_order.specs.Rules.{OverlapsInX, IsAbove}
 
 -- The next line goes on below a line, at most so many rows below its end.
@@ -24,9 +24,8 @@ abbrev pub EnclosesLines : List Rect → List ℕ → ℕ → ℕ → Rect → T
 EnclosesLines lines listing first last r = (k : ℕ) (d : Rect) → first ≤ k → k < last → Encloses r (line_at lines listing k d)
 
 -- The least rectangle that does.
-pub record IsLeastRound (lines : List Rect) (listing : List ℕ) (first last : ℕ) (r : Rect) : Type 0 where
-  pub encloses : EnclosesLines lines listing first last r
-  pub least : (other : Rect) → EnclosesLines lines listing first last other → Encloses other r
+abbrev pub IsLeastRound : List Rect → List ℕ → ℕ → ℕ → Rect → Type 0
+IsLeastRound lines listing first last r = IsLeastRect (EnclosesLines lines listing first last) r
 
 -- The longest stretch of a listing from a position on in which each next line goes on below the one before.
 pub record IsArea (lines : List Rect) (listing : List ℕ) (reach from : ℕ) (area : Area) : Type 0 where

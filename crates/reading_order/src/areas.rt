@@ -7,7 +7,8 @@ ghost use Rattle.layout_geom.specs.Rectangles.{Encloses};
 ghost use Rattle.reading_order.specs.Areas.{GoesOn, line_at, IsArea, AreAreasOf};
 
 use crate::rules::{middle, overlap_in_x};
-use layout_geom::{Area, Areas, Numbers, OutOfMemory, Rect, Rects};
+use layout_geom::{Area, Areas, Numbers, Rect, Rects};
+use layout_limits::OutOfMemory;
 use std::alloc::Global;
 
 /// Whether a line goes on below another.

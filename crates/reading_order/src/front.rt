@@ -5,7 +5,8 @@ ghost use Rattle.reading_order.specs.Fronts.{IsFront, IsKept, IsGreedy};
 ghost use Rattle.reading_order.specs.Looking.{AreLooked, AreFlags, IsClearUpTo, IsHeld, IsNotFree, IsLeastFree};
 
 use crate::table::Table;
-use layout_geom::{Numbers, OutOfMemory};
+use layout_geom::Numbers;
+use layout_limits::OutOfMemory;
 use std::alloc::Global;
 
 /// Numbers that were taken.

@@ -10,7 +10,8 @@ use crate::reach::fill_reaches;
 use crate::rules::precedes_by;
 use crate::sweep::{Sweep, sweep_down, sweep_up};
 use crate::table::Table;
-use layout_geom::{OutOfMemory, Rect};
+use layout_geom::Rect;
+use layout_limits::OutOfMemory;
 use std::alloc::Global;
 
 /// Finds how far to the left the lines between one line and each other reach.

@@ -5,7 +5,8 @@ ghost use Rattle.layout_geom.specs.Rectangles.{HasPixel, Overlaps, Encloses, IsC
 ghost use Rattle.whitespace_cover.specs.Index.{cell_of, list_at, Holds, IsIndex, Adds, IsFromMiddle};
 
 use crate::pivot::best_pivot;
-use layout_geom::{OutOfMemory, Rect, Rects};
+use layout_geom::{Rect, Rects};
+use layout_limits::OutOfMemory;
 use std::alloc::Global;
 
 /// The columns of a cell in pixels, and the rows.

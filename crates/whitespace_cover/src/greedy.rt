@@ -5,7 +5,8 @@ ghost use Rattle.whitespace_cover.specs.Cover.{IsCover, CoverIsUnique};
 use crate::bars::bars;
 use crate::white::White;
 use box_search::Searcher;
-use layout_geom::{OutOfMemory, Rect, Rects};
+use layout_geom::{Rect, Rects};
+use layout_limits::OutOfMemory;
 use std::alloc::Global;
 
 /// The greedy cover of the white space of a page, after Breuel (2002): the greatest white rectangle

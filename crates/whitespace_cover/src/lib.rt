@@ -12,5 +12,5 @@ mod tests;
 mod white;
 
 pub use greedy::{cover, cover_is_unique};
-pub use layout_geom::OutOfMemory;
+pub use layout_limits::OutOfMemory;
 pub use white::White;

@@ -7,7 +7,8 @@ ghost use Rattle.whitespace_cover.specs.Admissible.{IsRoomy};
 ghost use Rattle.whitespace_cover.specs.Regions.{IsRectNode, roomy_parts};
 
 use box_search::{Node, Shape};
-use layout_geom::{OutOfMemory, Rect};
+use layout_geom::Rect;
+use layout_limits::OutOfMemory;
 use std::alloc::Global;
 
 /// Whether a rectangle is at least as wide and as high as the least size.

@@ -5,8 +5,10 @@ mod plain;
 
 use crate::White;
 use box_search::{Alone, Noted, Searcher};
-use layout_geom::{OutOfMemory, Rect, Rects};
-use plain::{Sides, best_of_all, chance_box, next_number, rank_of};
+use chance::next_number;
+use layout_geom::{Rect, Rects};
+use layout_limits::OutOfMemory;
+use plain::{Sides, best_of_all, chance_box, rank_of};
 use std::alloc::Global;
 use std::process::Abort;
 use std::test::Fail;

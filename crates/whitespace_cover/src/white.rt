@@ -3,7 +3,8 @@ use crate::cells::Cells;
 use crate::pivot::pivot_of;
 use crate::region::{is_roomy, node_of, parts};
 use box_search::{Node, Space, Step};
-use layout_geom::{OutOfMemory, Rect, Rects};
+use layout_geom::{Rect, Rects};
+use layout_limits::OutOfMemory;
 use std::alloc::Global;
 use std::marker::Model;
 

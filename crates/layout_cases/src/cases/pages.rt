@@ -1,6 +1,7 @@
 //! The pages of the tests.
 use box_search::Shape;
-use layout_geom::{OutOfMemory, Rect, Rects};
+use layout_geom::{Rect, Rects};
+use layout_limits::OutOfMemory;
 use std::alloc::Global;
 use std::process::Abort;
 use whitespace_cover::White;

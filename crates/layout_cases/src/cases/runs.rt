@@ -1,21 +1,12 @@
 //! Whole runs on made pages, and workers that meet in a run.
-use super::meeting::Meeting;
 use layout_core::{layout_alone, layout_shared, output_is_unique};
 use layout_outside::{MemSink, MemSource};
 use lease_workers::{Gate, OpenGate};
+use search_trials::Meeting;
 use std::alloc::Global;
 use std::sync::Wait;
 use std::test::Fail;
 use std::thread::Threads;
-
-/// Holds each of two workers before its first turn until the other has asked for one.
-impl Gate for Meeting {
-    fn pass(&self, worker: u32, turn: u64) {
-        if turn == 0 {
-            self.come(worker == 0);
-        }
-    }
-}
 
 /// What a run wrote, and how often it asked its source.
 #[derive(Drop)]

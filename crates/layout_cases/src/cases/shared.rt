@@ -5,10 +5,10 @@ ghost use Rattle.box_search.specs.Leasing.{entry_of};
 ghost use Rattle.frontier_turn.specs.Callers.{IsOwn};
 
 use super::pages::{RIGHT, Sides, corner_block, shape_of};
-use super::passes::{give_back, take_lease, work_off};
 use bound_word::BoundWord;
 use box_search::{Lease, Space, Take};
 use frontier_turn::{Pass, Shared};
+use search_trials::{give_back, take_lease, work_off};
 use std::process::Abort;
 use std::sync::Wait;
 use std::test::Fail;
@@ -110,17 +110,6 @@ fn read_word<W: BoundWord>(word: &W, pass: &mut W::Pass) -> u64
 }
 
 #[test]
-fn closed_at_once(rt: HostRuntime) -> Result<(), Fail> {
-    let alloc = rt.alloc();
-    let white = corner_block(&rt, alloc)?;
-    let root = white.root(alloc)?;
-    let (shared, pass) = Shared::start(alloc, &white, root)?;
-    let closed = shared.close(pass);
-    assert_eq!(rt; (closed.word, closed.waiting, closed.leased), (0, 1, 0));
-    Ok(())
-}
-
-#[test]
 fn shared_frontier_by_two_passes(rt: HostRuntime) -> Result<(), Fail> {
     let alloc = rt.alloc();
     let white = corner_block(&rt, alloc)?;
@@ -130,15 +119,15 @@ fn shared_frontier_by_two_passes(rt: HostRuntime) -> Result<(), Fail> {
     let (first, second) = take_turns(&rt, &shared, first, second);
     let (page, first) = lease_at(&rt, &shared, first, (0, 0, 16, 16));
     let second = lease_nothing(&rt, &shared, second, false);
-    let first = work_off(&rt, alloc, &white, &shared, first, page)?;
+    let (_, first) = work_off(&rt, alloc, &white, &shared, first, page);
     let (right, second) = lease_at(&rt, &shared, second, (3, 0, 16, 16));
     let mut second = give_back(&rt, &shared, second, right);
     assert_eq!(rt; read_word(&shared, &mut second), 0);
     let (right, first) = lease_at(&rt, &shared, first, (3, 0, 16, 16));
-    let mut first = work_off(&rt, alloc, &white, &shared, first, right)?;
+    let (_, mut first) = work_off(&rt, alloc, &white, &shared, first, right);
     assert_eq!(rt; read_word(&shared, &mut first), RIGHT);
     let (below, second) = lease_at(&rt, &shared, second, (0, 3, 16, 16));
-    let second = work_off(&rt, alloc, &white, &shared, second, below)?;
+    let (_, second) = work_off(&rt, alloc, &white, &shared, second, below);
     let mut first = lease_nothing(&rt, &shared, first, true);
     shared.join(&mut first, second);
     let closed = shared.close(first);

@@ -1,10 +1,11 @@
 //! A bound word by hand, raised to the keys that the steps of a space settle.
 ghost use Rattle.std.specs.Prelude.{◌≡◌, ◌<◌, All, IfOk, OnOk, length};
-ghost use Rattle.bound_word.specs.Callers.{IsOwn};
+ghost use Rattle.bound_word.specs.Callers.{IsCallerOf};
 
 use super::pages::{BELOW, RIGHT, corner_block};
 use bound_word::{BoundWord, WordPass, WordTable};
-use box_search::{Node, OutOfMemory, Space, Step};
+use box_search::{Node, Space, Step};
+use layout_limits::OutOfMemory;
 use std::alloc::Global;
 use std::process::Abort;
 use std::test::Fail;
@@ -26,7 +27,7 @@ fn parts_of<S: Space>(
     }
 }
 
-/// Settles the part at a place, and raises the word to its key. Answers the key, and the word before.
+/// Settles the part at a place, and raises the word to its key. Answers the key, the word before, and the word after.
 fn settle<S: Space>(
     rt: &impl Abort,
     alloc: Global,
@@ -35,17 +36,31 @@ fn settle<S: Space>(
     pass: &mut WordPass<S>,
     parts: &[Node<S::Work>],
     place: usize,
-) -> Result<(u64, u64), OutOfMemory>
+) -> Result<(u64, u64, u64), OutOfMemory>
     requires problem { word.now.problem ≡ S.problem space.now }
-    requires own { IsOwn word.now pass.old }
+    requires own { IsCallerOf word.now pass.old }
     requires fits { All (S.fits (S.problem space.now)) parts.now }
     requires within { place < length parts.now }
-    ensures own { OnOk result (IsOwn word.now pass.new) }
+    ensures own { OnOk result (IsCallerOf word.now pass.new) }
 {
     match space.step(alloc, &parts[place])? {
-        Step::Settled(key) => Ok((key, word.raise(pass, key))),
+        Step::Settled(key) => {
+            let (before, after) = raise_and_read(word, pass, key);
+            Ok((key, before, after))
+        }
         Step::Split(_) => panic!(rt; "the node is split"),
     }
+}
+
+/// Raises any bound word, and reads it afterwards.
+fn raise_and_read<W: BoundWord>(word: &W, pass: &mut W::Pass, key: u64) -> (u64, u64)
+    requires own { W.is_own word.now pass.old }
+    requires admitted { W.admits word.now key }
+    ensures own { W.is_own word.now pass.new }
+    ensures rest { W.rest pass.new ≡ W.rest pass.old }
+{
+    let before = word.raise(pass, key);
+    (before, word.read(pass))
 }
 
 #[test]
@@ -55,14 +70,18 @@ fn bound_word_by_hand(rt: HostRuntime) -> Result<(), Fail> {
     let parts = parts_of(&rt, alloc, &white)?;
     assert_eq!(rt; parts.len(), 2);
     let (word, mut pass) = WordTable::start(alloc, &white)?;
+    assert_eq!(rt; word.read(&mut pass), 0);
     assert_eq!(rt;
         settle(&rt, alloc, &white, &word, &mut pass, &parts, 1)?,
-        (BELOW, 0)
+        (BELOW, 0, BELOW)
     );
     assert_eq!(rt;
         settle(&rt, alloc, &white, &word, &mut pass, &parts, 0)?,
-        (RIGHT, BELOW)
+        (RIGHT, BELOW, RIGHT)
     );
-    assert_eq!(rt; word.read(&mut pass), RIGHT);
+    assert_eq!(rt;
+        settle(&rt, alloc, &white, &word, &mut pass, &parts, 1)?,
+        (BELOW, RIGHT, RIGHT)
+    );
     Ok(())
 }

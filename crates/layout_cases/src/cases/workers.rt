@@ -1,19 +1,14 @@
 //! Searches by several workers over the white space of a page.
-use super::meeting::{Meeting, StepsMeet};
 use super::pages::{RIGHT, Sides, corner_block, shape_of, white_of};
-use box_search::{Alone, OutOfMemory, Searcher};
+use box_search::{Alone, Searcher};
+use chance::next_number;
+use layout_limits::OutOfMemory;
 use lease_workers::{OpenGate, Workers};
+use search_trials::{Meeting, StepsMeet, Watched};
 use std::alloc::Global;
 use std::process::Abort;
 use std::test::Fail;
 use whitespace_cover::White;
-
-/// The next number of a fixed sequence that looks like chance.
-fn next_number(number: u64) -> u64 {
-    number
-        .wrapping_mul(6_364_136_223_846_793_005)
-        .wrapping_add(1_442_695_040_888_963_407)
-}
 
 /// A box by chance of at most 16 by 16 pixels, within 240 by 240.
 fn chance_box(number: u64) -> Sides {
@@ -53,10 +48,13 @@ fn two_steps_at_one_time(rt: HostRuntime) -> Result<(), Fail> {
     let alloc = rt.alloc();
     let white = corner_block(&rt, alloc)?;
     let meeting = Meeting::new();
-    let space = StepsMeet {
-        space: &white,
+    let steps = StepsMeet {
         shapes: (shape_of((3, 0, 16, 16)), shape_of((0, 3, 16, 16))),
         meeting: &meeting,
+    };
+    let space = Watched {
+        space: &white,
+        watcher: &steps,
     };
     let mut workers = Workers::new(2, &OpenGate);
     assert_eq!(rt; workers.best(alloc, &rt, &space)?, RIGHT);

@@ -3,6 +3,7 @@ use super::plain::{Choice, Sides, best_of_all, is_member};
 use super::{PAGE, boxes_in, rects_of, sides_of};
 use crate::{Line, lines};
 use box_search::Alone;
+use chance::next_number;
 use components::Kept;
 use layout_geom::Rect;
 use std::alloc::Global;
@@ -11,13 +12,6 @@ use std::test::Fail;
 
 /// The height of the pages.
 const HEIGHT: u16 = 30;
-
-/// The next number of a fixed sequence that looks like chance.
-fn next_number(number: u64) -> u64 {
-    number
-        .wrapping_mul(6_364_136_223_846_793_005)
-        .wrapping_add(1_442_695_040_888_963_407)
-}
 
 /// A box 6 high whose left side and whose top follow from a number.
 fn box_of(number: u64) -> Sides {

@@ -1,9 +1,11 @@
 //! Greedy covers that were worked out by hand.
-use super::plain::{Sides, chance_box, next_number};
+use super::plain::{Sides, chance_box};
 use super::{rect_of, rects_of};
 use crate::{White, cover, cover_is_unique};
 use box_search::{Alone, Searcher};
-use layout_geom::{OutOfMemory, Rect, Rects};
+use chance::next_number;
+use layout_geom::{Rect, Rects};
+use layout_limits::OutOfMemory;
 use std::alloc::Global;
 use std::test::Fail;
 

@@ -45,13 +45,6 @@ pub(crate) fn best_of_all(page: Sides, obstacles: &[Sides], least: u16) -> Optio
     best
 }
 
-/// The next number of a fixed sequence that looks like chance.
-pub(crate) fn next_number(number: u64) -> u64 {
-    number
-        .wrapping_mul(6_364_136_223_846_793_005)
-        .wrapping_add(1_442_695_040_888_963_407)
-}
-
 /// A box by chance that begins before `page` and has at most `most` columns and rows.
 pub(crate) fn chance_box(number: u64, page: u64, most: u64) -> Sides
     requires page { 0 < page }

@@ -4,14 +4,14 @@ use Rattle.layout_geom.specs.declared.rect.Rect.{Rect}
 use Rattle.components.proofs.Held.{boxes_held}
 use Rattle.components.proofs.kept.components.Goals as goal
 
-pub returns-then-len-gt-MOST_KEPT-clause-fault : goal.returns-then-len-gt-MOST_KEPT-clause-fault
-returns-then-len-gt-MOST_KEPT-clause-fault c = λ held holds. (
+pub returns-then-len-gt-MAX_KEPT-clause-fault : goal.returns-then-len-gt-MAX_KEPT-clause-fault
+returns-then-len-gt-MAX_KEPT-clause-fault c = λ held holds. (
   record {
     found = c.in_ok-boxes.boxes.items;
     is_kept = boxes_held _ held holds _ c.in_ok-boxes.ensures.kept;
-    counted = omega (arith, c.len-then-len-gt-MOST_KEPT.ensures, c.in_ok-boxes.boxes.ok.0);
+    counted = omega (arith, c.len-then-len-gt-MAX_KEPT.ensures, c.in_ok-boxes.boxes.ok.0);
   },
-  omega (arith, c.if-len-gt-MOST_KEPT.true, c.len.ensures, c.len-then-len-gt-MOST_KEPT.ensures),
+  omega (arith, c.if-len-gt-MAX_KEPT.true, c.len.ensures, c.len-then-len-gt-MAX_KEPT.ensures),
 )
 
 pub returns-clause-kept : goal.returns-clause-kept
@@ -25,6 +25,6 @@ returns-clause-kept c = λ held holds.
         rearranged = c.in_ok-sort_by_key.ensures.permutation;
         sorted = c.in_ok-sort_by_key.ensures.sorted key (answers_always _ _ _ (λ f a r q k. search rules));
       });
-      few = rw c.from_vec.ensures.same (omega (arith, same, c.if-len-gt-MOST_KEPT.false, c.len.ensures, c.in_ok-boxes.boxes.ok.0));
+      few = rw c.from_vec.ensures.same (omega (arith, same, c.if-len-gt-MAX_KEPT.false, c.len.ensures, c.in_ok-boxes.boxes.ok.0));
       median = rw (c.from_vec.ensures.same, ← c.deref.ensures.value) c.in_ok-median.ensures;
     }

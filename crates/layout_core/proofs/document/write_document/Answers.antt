@@ -8,15 +8,15 @@ pub returns-in-Err-clause-bad_page : goal.returns-in-Err-clause-bad_page
 returns-in-Err-clause-bad_page g c =
     let out = c.refuse.ensures in
     λ status.
-    ends_bad (g.S.Source.left c.args.src.now) (g.S.Source.left c.read_layout.new.src) (g.E.Sink.written c.args.err.now) (g.E.Sink.written c.refuse.new.err)
-    (g.E.Sink.faults c.args.err.now) (g.E.Sink.faults c.refuse.new.err) c.in-Err.refusal c.in-Err.ensures.refused out.line (sym out.status ∙ status)
+    ends_bad (g.S.Source.view c.args.src.now).left (g.S.Source.view c.read_layout.new.src).left (g.E.Sink.view c.args.err.now).written (g.E.Sink.view c.refuse.new.err).written
+    (g.E.Sink.view c.args.err.now).faults (g.E.Sink.view c.refuse.new.err).faults c.in-Err.refusal c.in-Err.ensures.refused out.line (sym out.status ∙ status)
 
 pub returns-in-Err-clause-limited : goal.returns-in-Err-clause-limited
 returns-in-Err-clause-limited g c =
     let out = c.refuse.ensures in
     λ status.
-    ends_limited (g.S.Source.left c.args.src.now) (g.S.Source.left c.read_layout.new.src) (g.E.Sink.written c.args.err.now) (g.E.Sink.written c.refuse.new.err)
-    (g.E.Sink.faults c.args.err.now) (g.E.Sink.faults c.refuse.new.err) c.in-Err.refusal c.in-Err.ensures.refused out.line (sym out.status ∙ status)
+    ends_limited (g.S.Source.view c.args.src.now).left (g.S.Source.view c.read_layout.new.src).left (g.E.Sink.view c.args.err.now).written (g.E.Sink.view c.refuse.new.err).written
+    (g.E.Sink.view c.args.err.now).faults (g.E.Sink.view c.refuse.new.err).faults c.in-Err.refusal c.in-Err.ensures.refused out.line (sym out.status ∙ status)
 
 pub returns-in-Err-clause-faulty : goal.returns-in-Err-clause-faulty
 returns-in-Err-clause-faulty g c =
@@ -34,15 +34,15 @@ pub returns-in-Err-clause-read_fault : goal.returns-in-Err-clause-read_fault
 returns-in-Err-clause-read_fault g c =
     let out = c.refuse.ensures in
     λ status.
-    ends_unread (g.S.Source.left c.args.src.now) (g.S.Source.left c.read_layout.new.src) (g.E.Sink.written c.args.err.now) (g.E.Sink.written c.refuse.new.err)
-    (g.E.Sink.faults c.args.err.now) (g.E.Sink.faults c.refuse.new.err) (g.S.Source.faults c.args.src.now) (g.S.Source.faults c.read_layout.new.src)
+    ends_unread (g.S.Source.view c.args.src.now).left (g.S.Source.view c.read_layout.new.src).left (g.E.Sink.view c.args.err.now).written (g.E.Sink.view c.refuse.new.err).written
+    (g.E.Sink.view c.args.err.now).faults (g.E.Sink.view c.refuse.new.err).faults (g.S.Source.view c.args.src.now).faults (g.S.Source.view c.read_layout.new.src).faults
     c.in-Err.refusal c.in-Err.ensures.refused (λ is. c.in-Err.ensures.cause.failed (ap (λ r. Err r) is)) out.line (sym out.status ∙ status)
 
 pub returns-in-Err-clause-memory : goal.returns-in-Err-clause-memory
 returns-in-Err-clause-memory g c =
     let out = c.refuse.ensures in
     λ status.
-    ends_unmade (g.E.Sink.written c.args.err.now) (g.E.Sink.written c.refuse.new.err) (g.E.Sink.faults c.args.err.now) (g.E.Sink.faults c.refuse.new.err)
+    ends_unmade (g.E.Sink.view c.args.err.now).written (g.E.Sink.view c.refuse.new.err).written (g.E.Sink.view c.args.err.now).faults (g.E.Sink.view c.refuse.new.err).faults
     c.in-Err.refusal out.line (sym out.status ∙ status)
 
 pub returns-in-Err-clause-complete : goal.returns-in-Err-clause-complete

@@ -12,8 +12,8 @@ layout_of-requires-clause-whole g c =
 pub returns-in_err-layout-clause-refused : goal.returns-in_err-layout-clause-refused
 returns-in_err-layout-clause-refused g c =
     let p = err_from_is_err_and c.from_residual-in_err-layout.result c.from_residual-in_err-layout.ensures.1 in
-    let old = g.S.Source.left c.args.src.now in
-    let new = g.S.Source.left c.read_page.new.src in
+    let old = (g.S.Source.view c.args.src.now).left in
+    let new = (g.S.Source.view c.read_page.new.src).left in
     let read = c.in_ok-_size.ensures.page in
     let held = (c.given_page_is_held.ensures read.page c.empty-page.result c.read_page.new.rows read.sink).1 in
     let whole : ReadsWhole old new read.page = record { input = read.input; took = read.took; spells = read.spells } in
@@ -22,8 +22,8 @@ returns-in_err-layout-clause-refused g c =
 pub returns-in_err-layout-clause-complete : goal.returns-in_err-layout-clause-complete
 returns-in_err-layout-clause-complete g c =
     let p = err_from_is_err_and c.from_residual-in_err-layout.result c.from_residual-in_err-layout.ensures.1 in
-    let old = g.S.Source.left c.args.src.now in
-    let new = g.S.Source.left c.read_page.new.src in
+    let old = (g.S.Source.view c.args.src.now).left in
+    let new = (g.S.Source.view c.read_page.new.src).left in
     let read = c.in_ok-_size.ensures.page in
     let held = (c.given_page_is_held.ensures read.page c.empty-page.result c.read_page.new.rows read.sink).1 in
     let whole : ReadsWhole old new read.page = record { input = read.input; took = read.took; spells = read.spells } in
@@ -34,8 +34,8 @@ returns-in_err-layout-clause-complete g c =
 pub returns-in_err-layout-clause-limit : goal.returns-in_err-layout-clause-limit
 returns-in_err-layout-clause-limit g c =
     let p = err_from_is_err_and c.from_residual-in_err-layout.result c.from_residual-in_err-layout.ensures.1 in
-    let old = g.S.Source.left c.args.src.now in
-    let new = g.S.Source.left c.read_page.new.src in
+    let old = (g.S.Source.view c.args.src.now).left in
+    let new = (g.S.Source.view c.read_page.new.src).left in
     let read = c.in_ok-_size.ensures.page in
     let held = (c.given_page_is_held.ensures read.page c.empty-page.result c.read_page.new.rows read.sink).1 in
     let whole : ReadsWhole old new read.page = record { input = read.input; took = read.took; spells = read.spells } in
@@ -55,8 +55,8 @@ returns-clause-layout g c =
 
 pub returns-clause-limit : goal.returns-clause-limit
 returns-clause-limit g c =
-    let old = g.S.Source.left c.args.src.now in
-    let new = g.S.Source.left c.read_page.new.src in
+    let old = (g.S.Source.view c.args.src.now).left in
+    let new = (g.S.Source.view c.read_page.new.src).left in
     let read = c.in_ok-_size.ensures.page in
     let held = (c.given_page_is_held.ensures read.page c.empty-page.result c.read_page.new.rows read.sink).1 in
     let whole : ReadsWhole old new read.page = record { input = read.input; took = read.took; spells = read.spells } in

@@ -2,8 +2,9 @@ use Rattle.std.proofs.Common.{arith, ◌≡◌, ◌<◌, refl, ℕ, length, get_
 use Rattle.std.proofs.lemmas.List.{take_all}
 use Rattle.std.proofs.lemmas.List.Elements.{All-get_or}
 use Rattle.std.proofs.lemmas.Option.{slice_get_read}
+use Rattle.layout_geom.specs.PixelLaws.{hull_small}
 use Rattle.line_search.specs.Lines.{IsRound}
-use Rattle.line_search.proofs.Rounding.{hull_small, round_more, least_more, round_all, box_in}
+use Rattle.line_search.proofs.Rounding.{round_more, least_more, round_all, box_in}
 use Rattle.line_search.proofs.members.least_round.Goals as goal
 
 pub hull-round-requires : goal.hull-round-requires

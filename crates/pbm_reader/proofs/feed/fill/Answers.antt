@@ -9,9 +9,9 @@ use Rattle.pbm_reader.proofs.feed.fill.Goals as goal
 
 pub loop-at-preserved : goal.loop-at-preserved
 loop-at-preserved g c =
-    let old = left_of (g.S.Source.left c.args.src.now) c.args.feed.now in
-    let middle = left_of (g.S.Source.left c.loop-at.src) c.loop-at.feed in
-    let new = left_of (g.S.Source.left c.next_bytes.new.src) c.next_bytes.new.feed in
+    let old = left_of (g.S.Source.view c.args.src.now).left c.args.feed.now in
+    let middle = left_of (g.S.Source.view c.loop-at.src).left c.loop-at.feed in
+    let new = left_of (g.S.Source.view c.next_bytes.new.src).left c.next_bytes.new.feed in
     let buf = c.loop-at.buf in
     let at = c.loop-at.at in
     let part = c.next_bytes.new.buf in

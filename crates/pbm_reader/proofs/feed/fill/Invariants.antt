@@ -4,9 +4,9 @@ use Rattle.pbm_reader.proofs.feed.fill.Given as goal
 
 abbrev pub invariant-loop-at : goal.invariant-loop-at
 invariant-loop-at g l = record {
-  took : Took (left_of (g.S.Source.left l.initial.src) l.initial.feed) (left_of (g.S.Source.left l.src) l.feed) (take l.at l.buf);
+  took : Took (left_of (g.S.Source.view l.initial.src).left l.initial.feed) (left_of (g.S.Source.view l.src).left l.feed) (take l.at l.buf);
   within : l.at ≤ length l.buf;
-  later : g.S.Source.faults l.initial.src ≤ g.S.Source.faults l.src;
+  later : (g.S.Source.view l.initial.src).faults ≤ (g.S.Source.view l.src).faults;
 }
 
 abbrev pub decreases-loop-at : goal.decreases-loop-at

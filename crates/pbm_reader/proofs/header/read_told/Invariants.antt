@@ -5,6 +5,6 @@ use Rattle.pbm_reader.proofs.header.read_told.Given as goal
 
 abbrev pub invariant-loop-at : goal.invariant-loop-at
 invariant-loop-at g l = record {
-  reading : IsReading (left_of (g.S.Source.left l.initial.src) l.initial.feed) (left_of (g.S.Source.left l.src) l.feed) l.at l.state;
-  later : g.S.Source.faults l.initial.src ≤ g.S.Source.faults l.src;
+  reading : IsReading (left_of (g.S.Source.view l.initial.src).left l.initial.feed) (left_of (g.S.Source.view l.src).left l.feed) l.at l.state;
+  later : (g.S.Source.view l.initial.src).faults ≤ (g.S.Source.view l.src).faults;
 }

@@ -6,8 +6,8 @@ use Rattle.pbm_reader.proofs.plain.fill_pixels.Given as goal
 
 abbrev pub invariant-loop-x : goal.invariant-loop-x
 invariant-loop-x g l = record {
-  filling : IsFilling (left_of (g.S.Source.left l.initial.src) l.initial.feed) (left_of (g.S.Source.left l.src) l.feed) l.start l.at l.x l.row;
+  filling : IsFilling (left_of (g.S.Source.view l.initial.src).left l.initial.feed) (left_of (g.S.Source.view l.src).left l.feed) l.start l.at l.x l.row;
   buffer : length l.row ≡ row_len l.width;
   low : l.at ≤ 268435456;
-  later : g.S.Source.faults l.initial.src ≤ g.S.Source.faults l.src;
+  later : (g.S.Source.view l.initial.src).faults ≤ (g.S.Source.view l.src).faults;
 }

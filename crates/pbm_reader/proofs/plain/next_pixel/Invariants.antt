@@ -5,6 +5,6 @@ use Rattle.pbm_reader.proofs.plain.next_pixel.Given as goal
 
 abbrev pub invariant-loop-at : goal.invariant-loop-at
 invariant-loop-at g l = record {
-  between : IsBetween (left_of (g.S.Source.left l.initial.src) l.initial.feed) (left_of (g.S.Source.left l.src) l.feed) l.start l.at l.in_comment;
-  later : g.S.Source.faults l.initial.src ≤ g.S.Source.faults l.src;
+  between : IsBetween (left_of (g.S.Source.view l.initial.src).left l.initial.feed) (left_of (g.S.Source.view l.src).left l.feed) l.start l.at l.in_comment;
+  later : (g.S.Source.view l.initial.src).faults ≤ (g.S.Source.view l.src).faults;
 }

@@ -6,11 +6,11 @@ use Rattle.pbm_reader.proofs.plain.read_plain_raster.Given as goal
 
 abbrev pub invariant-loop-y : goal.invariant-loop-y
 invariant-loop-y g l = record {
-  giving : IsGivingPixels g.R.RowSink.given (left_of (g.S.Source.left l.initial.src) l.initial.feed) (left_of (g.S.Source.left l.src) l.feed)
+  giving : IsGivingPixels g.R.RowSink.given (left_of (g.S.Source.view l.initial.src).left l.initial.feed) (left_of (g.S.Source.view l.src).left l.feed)
       l.header.len l.at l.header.size.width l.header.size.height l._y l.initial.rows l.rows;
   buffer : vec_len l.row ≡ row_len l.header.size.width;
   low : l.at ≤ 268435456;
   width : g.R.RowSink.width_of l.rows ≡ l.header.size.width;
   height : g.R.RowSink.rows_left l.rows + l._y ≡ l.header.size.height;
-  later : g.S.Source.faults l.initial.src ≤ g.S.Source.faults l.src;
+  later : (g.S.Source.view l.initial.src).faults ≤ (g.S.Source.view l.src).faults;
 }

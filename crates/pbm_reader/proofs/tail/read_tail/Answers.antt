@@ -19,9 +19,9 @@ err_map (Err e) P Q f p = f e p
 
 pub returns-clause-ok : goal.returns-clause-ok
 returns-clause-ok g c =
-    let old = left_of (g.S.Source.left c.args.src.now) c.args.feed.now in
-    let middle = left_of (g.S.Source.left c.next_byte.new.src) c.next_byte.new.feed in
-    let new = left_of (g.S.Source.left c.skip_rest.new.src) c.skip_rest.new.feed in
+    let old = left_of (g.S.Source.view c.args.src.now).left c.args.feed.now in
+    let middle = left_of (g.S.Source.view c.next_byte.new.src).left c.next_byte.new.feed in
+    let new = left_of (g.S.Source.view c.skip_rest.new.src).left c.skip_rest.new.feed in
     let took = some_of c.in_ok-byte.field-0 c.in-Some.byte (λ byte. Took old middle (byte ∷ [])) c.in-Some.is c.in_ok-byte.ensures.byte in
     let follows : MayFollow c.args.form (c.in-Some.byte ∷ []) = c.may_follow.ensures.0 c.if-not-may_follow.false in
     ok_map c.skip_rest.result (TookRest middle new (c.args.start + 1)) (TookTail old new c.args.form c.args.start)
@@ -29,9 +29,9 @@ returns-clause-ok g c =
 
 pub returns-clause-fault : goal.returns-clause-fault
 returns-clause-fault g c =
-    let old = left_of (g.S.Source.left c.args.src.now) c.args.feed.now in
-    let middle = left_of (g.S.Source.left c.next_byte.new.src) c.next_byte.new.feed in
-    let new = left_of (g.S.Source.left c.skip_rest.new.src) c.skip_rest.new.feed in
+    let old = left_of (g.S.Source.view c.args.src.now).left c.args.feed.now in
+    let middle = left_of (g.S.Source.view c.next_byte.new.src).left c.next_byte.new.feed in
+    let new = left_of (g.S.Source.view c.skip_rest.new.src).left c.skip_rest.new.feed in
     let took = some_of c.in_ok-byte.field-0 c.in-Some.byte (λ byte. Took old middle (byte ∷ [])) c.in-Some.is c.in_ok-byte.ensures.byte in
     let follows : MayFollow c.args.form (c.in-Some.byte ∷ []) = c.may_follow.ensures.0 c.if-not-may_follow.false in
     let low : c.args.start < 268435456 = omega arith in

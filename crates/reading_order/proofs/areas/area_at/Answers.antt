@@ -1,7 +1,8 @@
 use Rattle.std.proofs.Common.{◌*◌, arith, refl, sym, ◌∙◌}
 use Rattle.std.proofs.lemmas.Bool.{false≢true}
 use Rattle.layout_geom.specs.Rectangles.{Encloses}
-use Rattle.reading_order.proofs.Rounds.{hull_small, round_one, round_more, area_done, not_on, on_more, page_encloses}
+use Rattle.layout_geom.specs.PixelLaws.{hull_small}
+use Rattle.reading_order.proofs.Rounds.{round_one, round_more, area_done, not_on, on_more, page_encloses}
 use Rattle.reading_order.proofs.areas.area_at.Goals as goal
 
 pub loop-position-init : goal.loop-position-init

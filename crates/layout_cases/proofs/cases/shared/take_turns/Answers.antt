@@ -3,7 +3,7 @@ use Rattle.frontier_turn.specs.declared.view.View.{View}
 use Rattle.std.specs.List.Sorted.{IsPermutation}
 use Rattle.box_search.specs.declared.lease.Entry.{Entry}
 use Rattle.frontier_turn.specs.Holding.{leases_of}
-use Rattle.layout_cases.proofs.Working.{nil_from_nil}
+use Rattle.frontier_turn.proofs.Working.{nil_from_nil}
 use Rattle.layout_cases.proofs.cases.shared.take_turns.Goals as goal
 
 pub returns-clause-unnamed : goal.returns-clause-unnamed

@@ -1,8 +1,7 @@
 use Rattle.std.proofs.Common.{◌≡◌, sym, ap, ◌∙◌, subst, List, ℤ, []}
 use Rattle.frontier_turn.specs.declared.view.View.{View}
-use Rattle.frontier_turn.specs.Holding.{leases_of, Replaces, TakesFitting}
-use Rattle.lease_workers.specs.Working.{NamesOnly}
-use Rattle.lease_workers.proofs.Working.{is_named, names_only, none_left, still_named, none_left_again}
+use Rattle.frontier_turn.specs.Holding.{leases_of, NamesOnly, Replaces, TakesFitting}
+use Rattle.frontier_turn.proofs.Working.{is_named, names_only, names_no_more, still_named, names_no_more_again}
 use Rattle.lease_workers.proofs.crew.Crew.end_and_take.Goals as goal
 
 pub finish-requires-clause-named : goal.finish-requires-clause-named
@@ -19,7 +18,7 @@ returns-in-Ok-clause-named g c =
     let S = g.S.Space in
     let take = c.lease-take in
     let p = c.args.self.now.shared.now.problem in
-    let none : leases_of c.finish.new.self ≡ [] = none_left c.enter-turn.result c.finish.new.self c.args.lease c.args.pass.view.rest.leases c.enter-turn.ensures.leases c.requires.named c.in-Ok.ensures.names in
+    let none : leases_of c.finish.new.self ≡ [] = names_no_more c.enter-turn.result c.finish.new.self c.args.lease c.args.pass.view.rest.leases c.enter-turn.ensures.leases c.requires.named c.in-Ok.ensures.names in
     let same : c.finish.new.self.view.rest.problem ≡ p = ap (λ (v : View). v.rest.problem) c.finish.ensures.view ∙ ap (λ (v : View). v.rest.problem) c.enter-turn.ensures.view.1 ∙ c.requires.own.1 in
     let fit = subst (λ (q : List ℤ). TakesFitting (S.fits q) take.result) same take.ensures.fits in
     subst (NamesOnly (S.fits p) take.result) (sym (ap (λ (v : View). v.rest.leases) c.leave-pass.ensures.view))
@@ -30,4 +29,4 @@ reopen-requires-clause-named g c κs within = still_named c.enter-turn.result c.
 
 pub returns-in-Err-clause-unnamed : goal.returns-in-Err-clause-unnamed
 returns-in-Err-clause-unnamed g c = ap (λ (v : View). v.rest.leases) c.leave-pass-in-Err.ensures.view
-    ∙ none_left_again c.enter-turn.result c.finish.new.self c.reopen.new.self c.args.lease c.in-Err.unfinished.lease c.args.pass.view.rest.leases c.enter-turn.ensures.leases c.requires.named c.finish.ensures.view c.in-Err.ensures.err c.reopen.ensures.names
+    ∙ names_no_more_again c.enter-turn.result c.finish.new.self c.reopen.new.self c.args.lease c.in-Err.unfinished.lease c.args.pass.view.rest.leases c.enter-turn.ensures.leases c.requires.named c.finish.ensures.view c.in-Err.ensures.err c.reopen.ensures.names

@@ -1,6 +1,6 @@
 use Rattle.std.proofs.Common.{ap, ◌∙◌}
 use Rattle.frontier_turn.specs.declared.view.View.{View}
-use Rattle.lease_workers.proofs.Working.{is_named, none_left}
+use Rattle.frontier_turn.proofs.Working.{is_named, names_no_more}
 use Rattle.lease_workers.proofs.crew.Crew.give_up.Goals as goal
 
 pub reopen-requires-clause-named : goal.reopen-requires-clause-named
@@ -8,4 +8,4 @@ reopen-requires-clause-named g c κs within = is_named c.enter-turn.result c.arg
 
 pub returns-clause-unnamed : goal.returns-clause-unnamed
 returns-clause-unnamed g c = ap (λ (v : View). v.rest.leases) c.leave.ensures.view
-    ∙ none_left c.enter-turn.result c.reopen.new.self c.args.lease c.args.pass.view.rest.leases c.enter-turn.ensures.leases c.requires.named c.reopen.ensures.names
+    ∙ names_no_more c.enter-turn.result c.reopen.new.self c.args.lease c.args.pass.view.rest.leases c.enter-turn.ensures.leases c.requires.named c.reopen.ensures.names

@@ -4,7 +4,7 @@ use Rattle.std.proofs.lemmas.List.Elements.{All-filter}
 use Rattle.box_search.specs.Leasing.{above}
 use Rattle.box_search.specs.declared.space.Node.{Node}
 use Rattle.frontier_turn.specs.Holding.{Replaces}
-use Rattle.lease_workers.proofs.Working.{split}
+use Rattle.lease_workers.proofs.Replacing.{splits_above}
 use Rattle.lease_workers.proofs.crew.Crew.replace.Goals as goal
 
 pub returns-in-Split-clause-fits : goal.returns-in-Split-clause-fits
@@ -28,6 +28,6 @@ returns-in-Split-clause-replaces g c =
     let word = c.read-word-in-Split.result in
     let kept : List (Node W) = above word c.in-Split.nodes.items in
     let splits = rw c.in-Split.is at c.in_ok-key.ensures.step in
-    let replaced = split (S.admits asked) (S.lies_in asked) (S.fits asked) (laws.bounded asked) c.args.node.now word c.in-Split.nodes.items splits in
+    let replaced = splits_above (S.admits asked) (S.lies_in asked) (S.fits asked) (laws.bounded asked) c.args.node.now word c.in-Split.nodes.items splits in
     subst (λ (nodes : List (Node W)). Replaces (S.admits c.args.self.now.shared.now.problem) (S.lies_in c.args.self.now.shared.now.problem) c.args.node.now.shape word nodes) (sym c.keep_above.ensures.above)
     (subst (λ (p : List ℤ). Replaces (S.admits p) (S.lies_in p) c.args.node.now.shape word kept) (sym c.requires.space) replaced)

@@ -2,9 +2,8 @@ use Rattle.std.proofs.Common.{◌≡◌, sym, ap, ◌∙◌, subst, List, ℤ, [
 use Rattle.frontier_turn.specs.declared.view.View.{View}
 use Rattle.std.specs.List.Sorted.{IsPermutation}
 use Rattle.box_search.specs.declared.lease.Entry.{Entry}
-use Rattle.frontier_turn.specs.Holding.{leases_of, TakesFitting}
-use Rattle.lease_workers.specs.Working.{NamesOnly}
-use Rattle.lease_workers.proofs.Working.{names_only, nil_from_nil}
+use Rattle.frontier_turn.specs.Holding.{leases_of, NamesOnly, TakesFitting}
+use Rattle.frontier_turn.proofs.Working.{names_only, nil_from_nil}
 use Rattle.lease_workers.proofs.crew.Crew.take_lease.Goals as goal
 
 pub returns-clause-named : goal.returns-clause-named

@@ -1,6 +1,6 @@
 use Rattle.std.proofs.Common.{◌≡◌}
 use Rattle.frontier_turn.specs.Callers.{IsOwn}
-use Rattle.lease_workers.specs.Working.{NamesOnly}
+use Rattle.frontier_turn.specs.Holding.{NamesOnly}
 use Rattle.lease_workers.proofs.crew.Crew.work.Given as goal
 
 abbrev pub invariant-loop : goal.invariant-loop

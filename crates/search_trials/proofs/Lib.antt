@@ -1,0 +1,3 @@
+mod Tables
+mod HeldLeases
+mod Replacing

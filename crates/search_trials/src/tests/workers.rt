@@ -1,0 +1,74 @@
+//! Searches with several numbers of workers, workers that wait for one another, and memory that is refused.
+ghost use Rattle.std.specs.Prelude.{◌≤◌, IfOk};
+ghost use Rattle.box_search.specs.Search.{IsGreatestKey};
+ghost use Rattle.lease_workers.specs.declared.workers.TheConstants.{MAX_WORKERS};
+
+use super::{BELOW, RIGHT, chance_numbers};
+use crate::{Meeting, RefusesOnce, Table, Watched};
+use box_search::{Alone, Searcher, Space};
+use layout_limits::OutOfMemory;
+use lease_workers::{Gate, MAX_WORKERS, OpenGate, Workers};
+use std::alloc::Global;
+use std::sync::Wait;
+use std::test::Fail;
+use std::thread::Threads;
+
+/// Searches with some workers.
+fn best_with<R: Threads + Wait + Sync, G: Gate, S: Space>(
+    rt: &R,
+    alloc: Global,
+    count: u32,
+    gate: &G,
+    space: &S,
+) -> Result<u64, OutOfMemory>
+    requires counts { (1 ≤ count) × (count ≤ MAX_WORKERS) }
+    ensures greatest { IfOk result (IsGreatestKey (S.admits (S.problem space.now))) }
+{
+    let mut workers = Workers::new(count, gate);
+    workers.best(alloc, rt, space)
+}
+
+#[test]
+fn worker_counts(rt: HostRuntime) -> Result<(), Fail> {
+    let alloc = rt.alloc();
+    let numbers = chance_numbers();
+    let keys = Table::new(&numbers);
+    let greatest = Alone.best(alloc, &keys)?;
+    for _ in 0..20 {
+        assert_eq!(rt; best_with(&rt, alloc, 1, &OpenGate, &keys)?, greatest);
+        assert_eq!(rt; best_with(&rt, alloc, 2, &OpenGate, &keys)?, greatest);
+        assert_eq!(rt; best_with(&rt, alloc, 7, &OpenGate, &keys)?, greatest);
+        assert_eq!(rt;
+            best_with(&rt, alloc, MAX_WORKERS, &OpenGate, &keys)?,
+            greatest
+        );
+    }
+    assert_eq!(rt; best_with(&rt, alloc, 2, &OpenGate, &Table::new(&[]))?, 0);
+    assert_eq!(rt;
+        best_with(&rt, alloc, 2, &OpenGate, &Table::new(&[0, 0]))?,
+        0
+    );
+    Ok(())
+}
+
+#[test]
+fn both_workers_ask_for_turns(rt: HostRuntime) -> Result<(), Fail> {
+    let keys = Table::new(&[BELOW, RIGHT]);
+    let gate = Meeting::new();
+    assert_eq!(rt; best_with(&rt, rt.alloc(), 2, &gate, &keys)?, RIGHT);
+    assert!(rt; gate.took_place());
+    Ok(())
+}
+
+#[test]
+fn memory_is_refused_once(rt: HostRuntime) -> Result<(), Fail> {
+    let keys = Table::new(&[BELOW, RIGHT]);
+    let space = Watched {
+        space: &keys,
+        watcher: &RefusesOnce::after(0),
+    };
+    let alloc = rt.alloc();
+    assert!(rt; best_with(&rt, alloc, 1, &OpenGate, &space).is_err());
+    assert_eq!(rt; best_with(&rt, alloc, 1, &OpenGate, &space)?, RIGHT);
+    Ok(())
+}
