@@ -39,7 +39,7 @@ pub record IsMark (mark : Mark) : Type 0 where
   pub offset : IsOffset mark.offset
 
 -- A layout that can be written.
-pub record IsWhole (layout : Layout) : Type 0 where
+pub record IsWholeLayout (layout : Layout) : Type 0 where
   pub order : NamesLines layout.order (length layout.lines)
   pub areas : SplitListing 0 (length layout.lines) layout.areas
   pub marks : All IsMark layout.lines

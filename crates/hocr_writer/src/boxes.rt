@@ -1,13 +1,14 @@
 //! The lines of boxes: an empty element for each box of a list.
 ghost use Rattle.std.specs.Prelude.{◌≡◌, ◌++◌, OnOk};
-ghost use Rattle.hocr_writer.specs.Pieces.{joined, numbered, box_text, box_front};
+ghost use Rattle.hocr_writer.specs.Pieces.{joined_pieces, numbered_pieces, box_text, box_front};
 ghost use Rattle.hocr_writer.specs.Document.{box_line};
 
 use crate::text::Text;
-use layout_geom::Rect;
-use std::alloc::AllocError as OutOfMemory;
+use layout_geom::{Rect, Rects};
+use layout_limits::OutOfMemory;
 
 // The sides of a box, as they stand behind hOCR's `bbox`.
+#[tactic(auto, using(crate::proofs::Joined::growing), unfolding(crate::specs::Pieces::box_text))]
 fn put_box(text: &mut Text, bbox: &Rect) -> Result<(), OutOfMemory>
     ensures grown { OnOk result (text.new ≡ text.old ++ box_text bbox.now) }
 {
@@ -22,6 +23,7 @@ fn put_box(text: &mut Text, bbox: &Rect) -> Result<(), OutOfMemory>
 }
 
 /// The front of an element, up to its box. What it opens with ends in the front of its `id`.
+#[tactic(auto, using(crate::proofs::Joined::growing), unfolding(crate::specs::Pieces::box_front))]
 pub fn put_box_front(
     text: &mut Text,
     opening: &[u8],
@@ -60,11 +62,11 @@ pub fn put_box_lines(
     text: &mut Text,
     opening: &[u8],
     page: u32,
-    boxes: &[Rect],
+    boxes: &Rects,
 ) -> Result<(), OutOfMemory>
-    ensures grown { OnOk result (text.new ≡ text.old ++ joined (numbered (box_line opening.now page) 0 boxes.now)) }
+    ensures grown { OnOk result (text.new ≡ text.old ++ joined_pieces (numbered_pieces (box_line opening.now page) 0 boxes.now)) }
 {
-    for (number, bbox) in boxes.iter().enumerate() {
+    for (number, bbox) in boxes.as_slice().iter().enumerate() {
         put_box_line(text, opening, page, number, bbox)?;
     }
     Ok(())

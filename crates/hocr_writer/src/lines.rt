@@ -6,7 +6,7 @@ use crate::boxes::put_box_front;
 use crate::layout::Mark;
 use crate::text::Text;
 use line_quality::height_at;
-use std::alloc::AllocError as OutOfMemory;
+use layout_limits::OutOfMemory;
 
 // The sign of a number, where it is negative.
 fn sign(slope: i8) -> &'static [u8]

@@ -1,16 +1,16 @@
 //! How the text lines of a page are ordered: in words, and as a line of the document.
 ghost use Rattle.std.specs.Prelude.{◌≡◌, ◌++◌, ◌∷◌, [], codes, decimal, OnOk};
-ghost use Rattle.hocr_writer.specs.Pieces.{joined, numbered};
+ghost use Rattle.hocr_writer.specs.Pieces.{joined_pieces, numbered_pieces};
 ghost use Rattle.hocr_writer.specs.Document.{cycle_text, order_text, order_line};
 
 use crate::layout::Layout;
 use crate::text::Text;
 use layout_geom::{Numbers, Order};
-use std::alloc::AllocError as OutOfMemory;
+use layout_limits::OutOfMemory;
 
 // The numbers of a cycle, each behind a space.
 fn put_numbers(text: &mut Text, numbers: &[u32]) -> Result<(), OutOfMemory>
-    ensures grown { OnOk result (text.new ≡ text.old ++ joined (numbered (λ place line. joined (codes " " ∷ decimal line ∷ [])) 0 numbers.now)) }
+    ensures grown { OnOk result (text.new ≡ text.old ++ joined_pieces (numbered_pieces (λ place line. joined_pieces (codes " " ∷ decimal line ∷ [])) 0 numbers.now)) }
 {
     for number in numbers {
         text.push(b" ")?;
@@ -29,6 +29,7 @@ fn put_cycle(text: &mut Text, cycle: &Numbers) -> Result<(), OutOfMemory>
 }
 
 /// Whether there is an order of the lines, or else the cycle that forbids it.
+#[tactic(auto, using(crate::proofs::Joined::growing), unfolding(crate::specs::Document::order_text))]
 pub fn put_order(text: &mut Text, order: &Order) -> Result<(), OutOfMemory>
     ensures grown { OnOk result (text.new ≡ text.old ++ order_text order.now) }
 {
@@ -39,6 +40,7 @@ pub fn put_order(text: &mut Text, order: &Order) -> Result<(), OutOfMemory>
 }
 
 /// How the text lines of the page are ordered, behind the page's number.
+#[tactic(auto, using(crate::proofs::Joined::growing), unfolding(crate::specs::Document::order_line))]
 pub fn put_order_line(text: &mut Text, layout: &Layout) -> Result<(), OutOfMemory>
     ensures grown { OnOk result (text.new ≡ text.old ++ order_line layout.now) }
 {

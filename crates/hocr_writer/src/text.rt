@@ -2,7 +2,8 @@
 ghost use Rattle.std.specs.Prelude.{◌≡◌, ◌++◌, [], OnOk, OnErr};
 
 use itoa::{Buffer, Integer};
-use std::alloc::{AllocError as OutOfMemory, Global};
+use layout_limits::OutOfMemory;
+use std::alloc::Global;
 use std::marker::Model;
 
 /// Bytes that grow at their end. Contracts see the list of the bytes.

@@ -1,6 +1,6 @@
 //! Which layouts can be written.
 ghost use Rattle.std.specs.Prelude.{◌≡◌, ◌<◌, ℕ, All, length, slice_index, IsTrue, ◌↔◌};
-ghost use Rattle.hocr_writer.specs.Listing.{NamesLines, SplitListing, IsMark, IsWhole, HasEachOnce};
+ghost use Rattle.hocr_writer.specs.Listing.{NamesLines, SplitListing, IsMark, IsWholeLayout, HasEachOnce};
 
 use crate::layout::{Layout, Mark};
 use layout_geom::{Area, Order};
@@ -72,7 +72,7 @@ impl Layout {
     ///
     /// Time grows with the square of the number of lines. It takes no memory.
     pub fn is_whole(&self) -> bool
-        ensures { IsTrue result ↔ IsWhole self.now }
+        ensures { IsTrue result ↔ IsWholeLayout self.now }
     {
         let count = self.lines.len();
         names_lines(&self.order, count)

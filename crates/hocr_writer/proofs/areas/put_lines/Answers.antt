@@ -11,11 +11,11 @@ pub loop-place-preserved : goal.loop-place-preserved
 loop-place-preserved c =
     let layout = c.args.layout.now in
     let area = c.args.area.now in
-    let number = c.line_at-number.result in
+    let number = c.number_at-number.result in
     let long = stretch_long (listing_of layout) area.first area.count c.requires.within in
-    let shown = ap (line_text layout.page number) (slice_get_read layout.lines _ number c.get.result.now refl c.line_at-number.ensures.is_line c.get.ensures.item) in
+    let shown = ap (line_text layout.page number) (slice_get_read layout.lines _ number c.get.result.now refl c.number_at-number.ensures.is_line c.get.ensures.item) in
     piece_more (λ place line. line_of layout line) _ _ _ (lines_in layout area) c.loop-place.place number (omega (arith, long))
-    (stretch_at (listing_of layout) area.first area.count c.loop-place.place number (omega arith) c.requires.within c.line_at-number.ensures.line)
+    (stretch_at (listing_of layout) area.first area.count c.loop-place.place number (omega arith) c.requires.within c.number_at-number.ensures.line)
     c.loop-place.invariant
     (c.in_ok-put_mark.ensures.grown ∙ ap (λ piece. c.loop-place.text ++ piece) (sym shown))
 

@@ -1,10 +1,12 @@
 use Rattle.std.proofs.Common.{◌≡◌, [], ◌++◌, sym, ap, ◌∙◌}
 use Rattle.std.proofs.lemmas.Bool.{false≢true}
 use Rattle.hocr_writer.proofs.Joined.{grown_more, grown_last}
+use Rattle.hocr_writer.specs.Document.{image_text}
 use Rattle.hocr_writer.proofs.Images.{image_named}
 use Rattle.hocr_writer.proofs.document.put_image.Goals as goal
 
 pub returns : goal.returns
+unfolding image_text
 returns c =
     let some : c.args.image.now ≡ [] → ⊥ = λ none. absurd (false≢true (sym c.if-is_empty.false ∙ (c.is_empty.ensures.empty).1 none)) in
     record {
