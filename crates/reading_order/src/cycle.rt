@@ -7,7 +7,8 @@ ghost use Rattle.reading_order.specs.Cycles.{IsCycle, IsLeastCycle, AreOnNone};
 use crate::ends::flag_ends;
 use crate::steps::steps_to;
 use crate::table::Table;
-use layout_geom::{Numbers, OutOfMemory};
+use layout_geom::Numbers;
+use layout_limits::OutOfMemory;
 use std::alloc::Global;
 
 /// The least number of steps from what comes next, or the number of rows where none leads to the target.

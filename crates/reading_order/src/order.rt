@@ -5,7 +5,8 @@ ghost use Rattle.reading_order.specs.Answers.{IsReadingOrder};
 use crate::cycle::least_cycle;
 use crate::front::{Front, take_free};
 use crate::rows::table_of;
-use layout_geom::{Order, OutOfMemory, Rects};
+use layout_geom::{Order, Rects};
+use layout_limits::OutOfMemory;
 use std::alloc::Global;
 
 /// The order in which a person reads the lines of a page, by two rules of Breuel (2003).

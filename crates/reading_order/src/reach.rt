@@ -4,6 +4,7 @@ ghost use Rattle.layout_geom.specs.declared.rect.Rect.{Rect};
 ghost use Rattle.reading_order.specs.Reach.{AreInOrder, AreReaches};
 
 use layout_geom::Rect;
+use layout_limits::MAX_SIDE;
 
 /// What was met on the way from one line to the others, in the order of their levels.
 #[derive(Drop)]
@@ -53,8 +54,8 @@ pub(crate) fn fill_reaches(
 {
     let mut walk = Walk {
         level: from,
-        before: Rect::MOST_SIDE,
-        within: Rect::MOST_SIDE,
+        before: MAX_SIDE,
+        within: MAX_SIDE,
     };
     for number in order {
         let level = levels[*number];

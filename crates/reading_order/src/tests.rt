@@ -4,7 +4,8 @@ ghost use Rattle.std.specs.Prelude.{IfOk, All, ◌≤◌};
 ghost use Rattle.layout_geom.specs.Rectangles.{Encloses};
 
 use crate::{areas_of, order_of};
-use layout_geom::{Areas, Order, OutOfMemory, Rect, Rects};
+use layout_geom::{Areas, Order, Rect, Rects};
+use layout_limits::OutOfMemory;
 use std::alloc::Global;
 use std::test::Fail;
 
