@@ -16,11 +16,3 @@ joined_none front = append-nil front
 
 -- By these, a text that grew by one piece after the other grew by the list of them.
 pub ruleset growing = (joined_more, joined_none)
-
--- A text that grew by a piece, and then by the rest, grew by the piece and the rest.
-pub grown_more : (front more now piece : List ℕ) (rest : List (List ℕ)) → more ≡ front ++ piece → now ≡ more ++ joined_pieces rest → now ≡ front ++ joined_pieces (piece ∷ rest)
-grown_more front more now piece rest first others = cc (joined_more front piece rest)
-
--- A text that grew by one piece.
-pub grown_last : (front now piece : List ℕ) → now ≡ front ++ piece → now ≡ front ++ joined_pieces (piece ∷ [])
-grown_last front now piece last = cc (joined_more front piece [], joined_none (front ++ piece))

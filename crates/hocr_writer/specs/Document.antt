@@ -10,9 +10,13 @@ use Rattle.hocr_writer.specs.Pieces.{joined_pieces, numbered_pieces, box_front}
 use Rattle.hocr_writer.specs.Listing.{listing_of}
 use Rattle.hocr_writer.specs.Lines.{line_of}
 
--- The numbers of a cycle of lines, each behind a space.
+-- The number of a line of a cycle, behind a space, whatever its place there.
+abbrev pub cycle_number : ℕ → ℕ → List ℕ
+cycle_number place line = joined_pieces (codes " " ∷ decimal line ∷ [])
+
+-- The numbers of a cycle of lines.
 abbrev pub cycle_text : List ℕ → List ℕ
-cycle_text cycle = joined_pieces (codes "cycle" ∷ joined_pieces (numbered_pieces (λ place line. joined_pieces (codes " " ∷ decimal line ∷ [])) 0 cycle) ∷ [])
+cycle_text cycle = joined_pieces (codes "cycle" ∷ joined_pieces (numbered_pieces cycle_number 0 cycle) ∷ [])
 
 -- How the text lines of the page are ordered: whether there is an order, or else a cycle that forbids it.
 unfoldable pub order_text : Order → List ℕ
@@ -74,12 +78,16 @@ area_line page number box = joined_pieces (box_front (codes "<div class='ocr_car
 abbrev pub lines_in : Layout → Area → List ℕ
 lines_in layout area = take area.count (drop area.first (listing_of layout))
 
+-- A line of an area, by its number, whatever its place there.
+abbrev pub placed_line : Layout → ℕ → ℕ → List ℕ
+placed_line layout place line = line_of layout line
+
 -- A whole area: where it begins, its lines in the order of the listing, and where it ends.
 abbrev pub area_text : Layout → ℕ → Area → List ℕ
 area_text layout number area =
     joined_pieces
     (area_line layout.page number area.bbox
-    ∷ joined_pieces (numbered_pieces (λ place line. line_of layout line) 0 (lines_in layout area))
+    ∷ joined_pieces (numbered_pieces (placed_line layout) 0 (lines_in layout area))
     ∷ codes "</div>\n"
     ∷ [])
 
@@ -111,4 +119,5 @@ page_text layout =
 
 -- The whole document.
 unfoldable pub document_of : Layout → List ℕ
-document_of layout = joined_pieces (head_text layout ∷ codes "<body>\n" ∷ page_text layout ∷ codes "</body>\n" ∷ codes "</html>\n" ∷ [])
+document_of layout =
+    joined_pieces (head_text layout ∷ codes "<body>\n" ∷ page_text layout ∷ codes "</body>\n" ∷ codes "</html>\n" ∷ [])

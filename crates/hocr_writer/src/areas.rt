@@ -2,13 +2,12 @@
 ghost use Rattle.std.specs.Prelude.{◌≡◌, ◌+◌, ◌<◌, ◌≤◌, ◌++◌, length, slice_index, OnOk};
 ghost use Rattle.hocr_writer.specs.Pieces.{joined_pieces, numbered_pieces};
 ghost use Rattle.hocr_writer.specs.Listing.{listing_of, NamesLines, IsWholeLayout};
-ghost use Rattle.hocr_writer.specs.Lines.{line_of};
-ghost use Rattle.hocr_writer.specs.Document.{lines_in, area_line, area_text};
+ghost use Rattle.hocr_writer.specs.Document.{placed_line, lines_in, area_line, area_text};
 
 use crate::boxes::put_box_front;
 use crate::layout::Layout;
 use crate::lines::put_mark;
-use crate::text::Text;
+use crate::text::TextBuffer;
 use layout_geom::{Area, Order, Rect};
 use layout_limits::OutOfMemory;
 
@@ -26,7 +25,7 @@ fn number_at(layout: &Layout, position: usize) -> usize
 }
 
 // An area begins.
-fn put_area_line(text: &mut Text, page: u32, number: usize, bbox: &Rect) -> Result<(), OutOfMemory>
+fn put_area_line(text: &mut TextBuffer, page: u32, number: usize, bbox: &Rect) -> Result<(), OutOfMemory>
     ensures grown { OnOk result (text.new ≡ text.old ++ area_line page number bbox.now) }
 {
     put_box_front(
@@ -41,10 +40,10 @@ fn put_area_line(text: &mut Text, page: u32, number: usize, bbox: &Rect) -> Resu
 }
 
 // The lines of an area, in the order of the listing.
-fn put_lines(text: &mut Text, layout: &Layout, area: &Area) -> Result<(), OutOfMemory>
+fn put_lines(text: &mut TextBuffer, layout: &Layout, area: &Area) -> Result<(), OutOfMemory>
     requires names { NamesLines layout.now.order (length layout.now.lines) }
     requires within { area.now.first + area.now.count ≤ length (listing_of layout.now) }
-    ensures grown { OnOk result (text.new ≡ text.old ++ joined_pieces (numbered_pieces (λ place line. line_of layout.now line) 0 (lines_in layout.now area.now))) }
+    ensures grown { OnOk result (text.new ≡ text.old ++ joined_pieces (numbered_pieces (placed_line layout.now) 0 (lines_in layout.now area.now))) }
 {
     let first = area.first as usize;
     for place in 0..area.count as usize {
@@ -55,7 +54,7 @@ fn put_lines(text: &mut Text, layout: &Layout, area: &Area) -> Result<(), OutOfM
 }
 
 // An area of a number, with its lines.
-fn put_area(text: &mut Text, layout: &Layout, number: usize, area: &Area) -> Result<(), OutOfMemory>
+fn put_area(text: &mut TextBuffer, layout: &Layout, number: usize, area: &Area) -> Result<(), OutOfMemory>
     requires names { NamesLines layout.now.order (length layout.now.lines) }
     requires within { area.now.first + area.now.count ≤ length (listing_of layout.now) }
     ensures grown { OnOk result (text.new ≡ text.old ++ area_text layout.now number area.now) }
@@ -67,7 +66,7 @@ fn put_area(text: &mut Text, layout: &Layout, number: usize, area: &Area) -> Res
 }
 
 /// The areas of a page, in the order of the listing and numbered from 0.
-pub fn put_areas(text: &mut Text, layout: &Layout) -> Result<(), OutOfMemory>
+pub fn put_areas(text: &mut TextBuffer, layout: &Layout) -> Result<(), OutOfMemory>
     requires { IsWholeLayout layout.now }
     ensures grown { OnOk result (text.new ≡ text.old ++ joined_pieces (numbered_pieces (area_text layout.now) 0 layout.now.areas)) }
 {

@@ -8,14 +8,14 @@ use crate::areas::put_areas;
 use crate::boxes::put_box_lines;
 use crate::layout::Layout;
 use crate::order::put_order_line;
-use crate::text::Text;
+use crate::text::TextBuffer;
 use layout_geom::Name;
 use layout_limits::OutOfMemory;
 use std::alloc::Global;
 
 // The name of an image, where there is one.
 #[tactic(auto, using(crate::proofs::Joined::growing), unfolding(crate::specs::Document::image_text))]
-fn put_image(text: &mut Text, image: &Name) -> Result<(), OutOfMemory>
+fn put_image(text: &mut TextBuffer, image: &Name) -> Result<(), OutOfMemory>
     ensures grown { OnOk result (text.new ≡ text.old ++ image_text image.now) }
 {
     if image.is_empty() {
@@ -29,7 +29,7 @@ fn put_image(text: &mut Text, image: &Name) -> Result<(), OutOfMemory>
 
 // The page's element begins.
 #[tactic(auto, using(crate::proofs::Joined::growing), unfolding(crate::specs::Document::page_line))]
-fn put_page_line(text: &mut Text, layout: &Layout) -> Result<(), OutOfMemory>
+fn put_page_line(text: &mut TextBuffer, layout: &Layout) -> Result<(), OutOfMemory>
     ensures grown { OnOk result (text.new ≡ text.old ++ page_line layout.now) }
 {
     text.push(b"<div class='ocr_page' id='page_")?;
@@ -49,7 +49,7 @@ fn put_page_line(text: &mut Text, layout: &Layout) -> Result<(), OutOfMemory>
 }
 
 // A line for each white rectangle.
-fn put_whites(text: &mut Text, layout: &Layout) -> Result<(), OutOfMemory>
+fn put_whites(text: &mut TextBuffer, layout: &Layout) -> Result<(), OutOfMemory>
     ensures grown { OnOk result (text.new ≡ text.old ++ joined_pieces (numbered_pieces (white_line layout.now.page) 0 layout.now.whites)) }
 {
     let opening = b"<div class='ocrx_whitespace' id='white_";
@@ -57,7 +57,7 @@ fn put_whites(text: &mut Text, layout: &Layout) -> Result<(), OutOfMemory>
 }
 
 // A line for each gutter.
-fn put_gutters(text: &mut Text, layout: &Layout) -> Result<(), OutOfMemory>
+fn put_gutters(text: &mut TextBuffer, layout: &Layout) -> Result<(), OutOfMemory>
     ensures grown { OnOk result (text.new ≡ text.old ++ joined_pieces (numbered_pieces (gutter_line layout.now.page) 0 layout.now.gutters)) }
 {
     let opening = b"<div class='ocr_separator' id='gutter_";
@@ -66,7 +66,7 @@ fn put_gutters(text: &mut Text, layout: &Layout) -> Result<(), OutOfMemory>
 
 // What stands in front of the body.
 #[tactic(auto, using(crate::proofs::Joined::growing), unfolding(crate::specs::Document::head_text))]
-fn put_head(text: &mut Text, layout: &Layout) -> Result<(), OutOfMemory>
+fn put_head(text: &mut TextBuffer, layout: &Layout) -> Result<(), OutOfMemory>
     ensures grown { OnOk result (text.new ≡ text.old ++ head_text layout.now) }
 {
     text.push(b"<!DOCTYPE html>\n")?;
@@ -85,7 +85,7 @@ fn put_head(text: &mut Text, layout: &Layout) -> Result<(), OutOfMemory>
 
 // The page's element, with all that was found on the page.
 #[tactic(auto, using(crate::proofs::Joined::growing), unfolding(crate::specs::Document::page_text))]
-fn put_page(text: &mut Text, layout: &Layout) -> Result<(), OutOfMemory>
+fn put_page(text: &mut TextBuffer, layout: &Layout) -> Result<(), OutOfMemory>
     requires { IsWholeLayout layout.now }
     ensures grown { OnOk result (text.new ≡ text.old ++ page_text layout.now) }
 {
@@ -99,7 +99,7 @@ fn put_page(text: &mut Text, layout: &Layout) -> Result<(), OutOfMemory>
 
 // The whole document.
 #[tactic(auto, using(crate::proofs::Joined::growing), unfolding(crate::specs::Document::document_of))]
-fn put_document(text: &mut Text, layout: &Layout) -> Result<(), OutOfMemory>
+fn put_document(text: &mut TextBuffer, layout: &Layout) -> Result<(), OutOfMemory>
     requires { IsWholeLayout layout.now }
     ensures grown { OnOk result (text.new ≡ text.old ++ document_of layout.now) }
 {
@@ -126,7 +126,7 @@ pub fn hocr_text(alloc: Global, layout: &Layout) -> Result<Vec<u8>, OutOfMemory>
     requires { IsWholeLayout layout.now }
     ensures written { IfOk result (λ text. text.items ≡ document_of layout.now) }
 {
-    let mut text = Text::new(alloc);
+    let mut text = TextBuffer::new(alloc);
     put_document(&mut text, layout)?;
     Ok(text.into_bytes())
 }

@@ -5,14 +5,14 @@ ghost use Rattle.hocr_writer.specs.Summary.{size_line, found_order_line, summary
 
 use crate::layout::Layout;
 use crate::order::put_order;
-use crate::text::Text;
+use crate::text::TextBuffer;
 use itoa::Integer;
 use layout_limits::OutOfMemory;
 use std::alloc::Global;
 
 // The size of the page.
 #[tactic(auto, using(crate::proofs::Joined::growing), unfolding(crate::specs::Summary::size_line))]
-fn put_size_line(text: &mut Text, layout: &Layout) -> Result<(), OutOfMemory>
+fn put_size_line(text: &mut TextBuffer, layout: &Layout) -> Result<(), OutOfMemory>
     ensures grown { OnOk result (text.new ≡ text.old ++ size_line layout.now) }
 {
     text.push(b"page ")?;
@@ -24,7 +24,7 @@ fn put_size_line(text: &mut Text, layout: &Layout) -> Result<(), OutOfMemory>
 }
 
 // A count, behind what is counted.
-fn put_count_line<I: Integer>(text: &mut Text, counted: &[u8], count: I) -> Result<(), OutOfMemory>
+fn put_count_line<I: Integer>(text: &mut TextBuffer, counted: &[u8], count: I) -> Result<(), OutOfMemory>
     ensures grown { OnOk result (text.new ≡ text.old ++ joined_pieces (counted.now ∷ I.text count ∷ codes "\n" ∷ [])) }
 {
     text.push(counted)?;
@@ -35,7 +35,7 @@ fn put_count_line<I: Integer>(text: &mut Text, counted: &[u8], count: I) -> Resu
 
 // How the text lines are ordered.
 #[tactic(auto, using(crate::proofs::Joined::growing), unfolding(crate::specs::Summary::found_order_line))]
-fn put_found_order_line(text: &mut Text, layout: &Layout) -> Result<(), OutOfMemory>
+fn put_found_order_line(text: &mut TextBuffer, layout: &Layout) -> Result<(), OutOfMemory>
     ensures grown { OnOk result (text.new ≡ text.old ++ found_order_line layout.now) }
 {
     text.push(b"order ")?;
@@ -46,7 +46,7 @@ fn put_found_order_line(text: &mut Text, layout: &Layout) -> Result<(), OutOfMem
 
 // The whole summary.
 #[tactic(auto, using(crate::proofs::Joined::growing), unfolding(crate::specs::Summary::summary_of))]
-fn put_summary(text: &mut Text, layout: &Layout) -> Result<(), OutOfMemory>
+fn put_summary(text: &mut TextBuffer, layout: &Layout) -> Result<(), OutOfMemory>
     ensures grown { OnOk result (text.new ≡ text.old ++ summary_of layout.now) }
 {
     put_size_line(text, layout)?;
@@ -74,7 +74,7 @@ fn put_summary(text: &mut Text, layout: &Layout) -> Result<(), OutOfMemory>
 pub fn summary_text(alloc: Global, layout: &Layout) -> Result<Vec<u8>, OutOfMemory>
     ensures text { IfOk result (λ text. text.items ≡ summary_of layout.now) }
 {
-    let mut text = Text::new(alloc);
+    let mut text = TextBuffer::new(alloc);
     put_summary(&mut text, layout)?;
     Ok(text.into_bytes())
 }

@@ -1,5 +1,0 @@
-use Rattle.hocr_writer.proofs.Joined.{growing}
-use Rattle.hocr_writer.proofs.boxes.put_box_line.Goals as goal
-
-pub returns : goal.returns
-returns c = record { grown = rw (c.in_ok-push.ensures.grown, c.in_ok-put_box_front.ensures.grown) (simp growing); }
