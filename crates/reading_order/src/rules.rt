@@ -27,5 +27,6 @@ pub(crate) fn precedes_by(first: &Rect, second: &Rect, reach: u16) -> bool
     if overlap_in_x(first, second) && twice_middle(first) < twice_middle(second) {
         return true;
     }
-    first.x1() <= second.x0() && (twice_middle(first) == twice_middle(second) || first.x1() <= reach)
+    first.x1() <= second.x0()
+        && (twice_middle(first) == twice_middle(second) || first.x1() <= reach)
 }
