@@ -4,45 +4,25 @@ use Rattle.command_words.specs.Items.{Text}
 use Rattle.command_words.specs.Values.{IsImageOf, IsNumberOf, IsSeedOf}
 use Rattle.command_words.specs.Plans.{AreApart, HasNoPlan, HasPlan, usual_workers, value_in}
 use Rattle.command_words.specs.Givens.{HasValues, text_of}
-use Rattle.command_words.specs.declared.options.Given.{Given}
+use Rattle.command_words.specs.declared.options.OptionTexts.{OptionTexts}
 use Rattle.command_words.specs.declared.plan.Plan.{Plan}
+use Rattle.command_words.specs.declared.plan.TheConstants.{MAX_RECTS, MAX_WORKERS, USUAL_RECTS}
 use Rattle.command_words.specs.declared.plan.Program.{Program}
 use Rattle.command_words.proofs.Known.{one_items}
 
 -- the plan's items are those of the values
-same_values : (program : Program) (words : List Text) (given : Given) (plan : Plan) (values : HasValues program words given) (has : HasPlan program words plan)
+same_values : (program : Program) (words : List Text) (given : OptionTexts) (plan : Plan) (values : HasValues program words given) (has : HasPlan program words plan)
     → has.items ≡ values.items
 same_values program words given plan values has = one_items program words has.items values.items has.spelled values.spelled
 
-pub no_workers : (program : Program) (words : List Text) (given : Given) → HasValues program words given
-    → ((n : ℕ) → IsNumberOf (text_of given.workers) (usual_workers program) 1 64 n → ⊥) → HasNoPlan program words
-no_workers program words given values none plan has =
-    none plan.workers
-    (subst (λ v. IsNumberOf v (usual_workers program) 1 64 plan.workers) (sym values.workers)
-    (subst (λ is. IsNumberOf (value_in is (codes "workers")) (usual_workers program) 1 64 plan.workers) (same_values program words given plan values has) has.workers))
+-- The words have no plan, where what a plan says of the value of an option holds of none that was given.
+pub no_plan : (program : Program) (words : List Text) (given : OptionTexts) (values : HasValues program words given) (Tells : Plan → Option Text → Type 0) (name : Text) (text : Option Text)
+    → text ≡ value_in values.items name → ((plan : Plan) (has : HasPlan program words plan) → Tells plan (value_in has.items name))
+    → ((plan : Plan) → Tells plan text → ⊥) → HasNoPlan program words
+no_plan program words given values Tells name text is told none plan has =
+    none plan (subst (Tells plan) (sym is) (subst (λ items. Tells plan (value_in items name)) (same_values program words given plan values has) (told plan has)))
 
-pub no_rects : (program : Program) (words : List Text) (given : Given) → HasValues program words given
-    → ((n : ℕ) → IsNumberOf (text_of given.rects) 32 1 256 n → ⊥) → HasNoPlan program words
-no_rects program words given values none plan has =
-    none plan.rects
-    (subst (λ v. IsNumberOf v 32 1 256 plan.rects) (sym values.rects)
-    (subst (λ is. IsNumberOf (value_in is (codes "rects")) 32 1 256 plan.rects) (same_values program words given plan values has) has.rects))
-
-pub no_image : (program : Program) (words : List Text) (given : Given) → HasValues program words given
-    → ((name : List ℕ) → IsImageOf (text_of given.image) name → ⊥) → HasNoPlan program words
-no_image program words given values none plan has =
-    none plan.image
-    (subst (λ v. IsImageOf v plan.image) (sym values.image)
-    (subst (λ is. IsImageOf (value_in is (codes "image")) plan.image) (same_values program words given plan values has) has.image))
-
-pub no_seed : (program : Program) (words : List Text) (given : Given) → HasValues program words given
-    → ((seed : Option ℕ) → IsSeedOf (text_of given.make) seed → ⊥) → HasNoPlan program words
-no_seed program words given values none plan has =
-    none plan.make
-    (subst (λ v. IsSeedOf v plan.make) (sym values.make)
-    (subst (λ is. IsSeedOf (value_in is (codes "make")) plan.make) (same_values program words given plan values has) has.make))
-
-pub not_apart : (program : Program) (words : List Text) (given : Given) → HasValues program words given
+pub not_apart : (program : Program) (words : List Text) (given : OptionTexts) → HasValues program words given
     → (AreApart (text_of given.image) (text_of given.make) → ⊥) → HasNoPlan program words
 not_apart program words given values both plan has =
     both
@@ -66,10 +46,10 @@ one_seed (Some text) x y is_x is_y = is_x.is ∙ ap Some (sym is_x.spelled.value
 pub one_plan : (program : Program) (words : List Text) (p q : Plan) → HasPlan program words p → HasPlan program words q → p ≡ q
 one_plan program words p q has_p has_q =
     let same = one_items program words has_p.items has_q.items has_p.spelled has_q.spelled in
-    let rects = one_number (value_in has_q.items (codes "rects")) 32 1 256 p.rects q.rects
-    (subst (λ is. IsNumberOf (value_in is (codes "rects")) 32 1 256 p.rects) same has_p.rects) has_q.rects in
-    let workers = one_number (value_in has_q.items (codes "workers")) (usual_workers program) 1 64 p.workers q.workers
-    (subst (λ is. IsNumberOf (value_in is (codes "workers")) (usual_workers program) 1 64 p.workers) same has_p.workers) has_q.workers in
+    let rects = one_number (value_in has_q.items (codes "rects")) USUAL_RECTS 1 MAX_RECTS p.rects q.rects
+    (subst (λ is. IsNumberOf (value_in is (codes "rects")) USUAL_RECTS 1 MAX_RECTS p.rects) same has_p.rects) has_q.rects in
+    let workers = one_number (value_in has_q.items (codes "workers")) (usual_workers program) 1 MAX_WORKERS p.workers q.workers
+    (subst (λ is. IsNumberOf (value_in is (codes "workers")) (usual_workers program) 1 MAX_WORKERS p.workers) same has_p.workers) has_q.workers in
     let image = one_name (value_in has_q.items (codes "image")) p.image q.image
     (subst (λ is. IsImageOf (value_in is (codes "image")) p.image) same has_p.image) has_q.image in
     let make = one_seed (value_in has_q.items (codes "make")) p.make q.make

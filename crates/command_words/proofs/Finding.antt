@@ -57,25 +57,25 @@ new_from_once items item rest once = go (has_item items item.name) refl
 -- ---- from what `clap` takes to items
 
 -- the words spell items that go on with those so far
-pub record GoesOn (names : List Text) (so_far : List Item) (words : List Text) : Type 0 where
+pub record ReadsOn (names : List Text) (so_far : List Item) (words : List Text) : Type 0 where
   pub items : List Item
   pub spelled : SpellsItems items words
   pub known : All (λ item. is_option names item.name ≡ true) items
   pub once : AreOnce (so_far ++ items)
 
 -- the same behind an option whose value is still to come
-pub record GoesOnWithValue (names : List Text) (so_far : List Item) (name : Text) (words : List Text) : Type 0 where
+pub record ReadsOnWithValue (names : List Text) (so_far : List Item) (name : Text) (words : List Text) : Type 0 where
   pub value : Text
   pub rest : List Text
   pub are : words ≡ value ∷ rest
   pub plain : begins_with_hyphen value ≡ false
-  pub after : GoesOn names (so_far ++ record { name = name; value = value } ∷ []) rest
+  pub after : ReadsOn names (so_far ++ record { name = name; value = value } ∷ []) rest
 
 pub record Found (names : List Text) (words : List Text) : Type 0 where
   pub at_item_is : (before : List Item) (last : Option Item) → is_known names last ≡ true → AreOnce before
-      → faults_from names (at_item (holds before last)) words ≡ [] → GoesOn names (read_items before last) words
+      → faults_from names (at_item (holds before last)) words ≡ [] → ReadsOn names (read_items before last) words
   pub at_value_is : (before : List Item) (name : Text) → is_option names name ≡ true → AreOnce before
-      → faults_from names (at_value name (expects before name)) words ≡ [] → GoesOnWithValue names before name words
+      → faults_from names (at_value name (expects before name)) words ≡ [] → ReadsOnWithValue names before name words
 
 new_where_settled : (names : List Text) (before : List Item) (last : Option Item) → is_known names last ≡ true
     → settle_fault (map ready names) false (holds before last) ≡ [] → is_new before last ≡ true
@@ -123,7 +123,7 @@ found_nothing names = record {
 
 -- one more item in front, in one word
 with_item : (names : List Text) (so_far : List Item) (item : Item) (word : Text) (words : List Text) → is_option names item.name ≡ true
-    → SpellsItem item (word ∷ []) → GoesOn names (so_far ++ item ∷ []) words → GoesOn names so_far (word ∷ words)
+    → SpellsItem item (word ∷ []) → ReadsOn names (so_far ++ item ∷ []) words → ReadsOn names so_far (word ∷ words)
 with_item names so_far item word words known spells more = record {
   items = item ∷ more.items;
   spelled = (word ∷ [], words, refl, spells, more.spelled);
@@ -133,7 +133,7 @@ with_item names so_far item word words known spells more = record {
 
 -- and in two
 with_two_words : (names : List Text) (so_far : List Item) (name word : Text) (words : List Text) → is_option names name ≡ true
-    → word ≡ codes "--" ++ name → GoesOnWithValue names so_far name words → GoesOn names so_far (word ∷ words)
+    → word ≡ codes "--" ++ name → ReadsOnWithValue names so_far name words → ReadsOn names so_far (word ∷ words)
 with_two_words names so_far name word words known is more =
     let item : Item = record { name = name; value = more.value } in
     record {
@@ -146,7 +146,7 @@ with_two_words names so_far name word words known is more =
 -- an option with its value in one word
 found_together : (names : List Text) (before : List Item) (last : Option Item) (first : ℕ) (rest : Text) (words : List Text)
     → is_known names last ≡ true → AreOnce before → is_option names (name_in first rest) ≡ true → has_byte 61 (first ∷ rest) ≡ true → Found names words
-    → faults_from names (at_item (holds before last)) (long_word first rest ∷ words) ≡ [] → GoesOn names (read_items before last) (long_word first rest ∷ words)
+    → faults_from names (at_item (holds before last)) (long_word first rest ∷ words) ≡ [] → ReadsOn names (read_items before last) (long_word first rest ∷ words)
 found_together names before last first rest words known once is_one sign found none =
     let item : Item = record { name = name_in first rest; value = after_first (λ x. x == 61) (first ∷ rest) } in
     let given : value_of first rest ≡ Some item.value = rw sign refl in
@@ -175,7 +175,7 @@ expecting names before last name known new = ap (λ (held : Held). record held {
 -- an option whose value stands in the next word
 found_apart : (names : List Text) (before : List Item) (last : Option Item) (first : ℕ) (rest : Text) (words : List Text)
     → is_known names last ≡ true → AreOnce before → is_option names (name_in first rest) ≡ true → has_byte 61 (first ∷ rest) ≡ false → Found names words
-    → faults_from names (at_item (holds before last)) (long_word first rest ∷ words) ≡ [] → GoesOn names (read_items before last) (long_word first rest ∷ words)
+    → faults_from names (at_item (holds before last)) (long_word first rest ∷ words) ≡ [] → ReadsOn names (read_items before last) (long_word first rest ∷ words)
 found_apart names before last first rest words known once is_one sign found none =
     let name = name_in first rest in
     let so_far = read_items before last in
@@ -193,10 +193,10 @@ found_apart names before last first rest words known once is_one sign found none
 -- a word of two hyphens and more, where an item may begin
 found_long : (names : List Text) (before : List Item) (last : Option Item) (first : ℕ) (rest : Text) (words : List Text)
     → is_known names last ≡ true → AreOnce before → Found names words
-    → faults_from names (at_item (holds before last)) (long_word first rest ∷ words) ≡ [] → GoesOn names (read_items before last) (long_word first rest ∷ words)
+    → faults_from names (at_item (holds before last)) (long_word first rest ∷ words) ≡ [] → ReadsOn names (read_items before last) (long_word first rest ∷ words)
 found_long names before last first rest words known once found none = go (is_option names (name_in first rest)) refl (has_byte 61 (first ∷ rest)) refl
   where
-    go : (b : Bool) → is_option names (name_in first rest) ≡ b → (s : Bool) → has_byte 61 (first ∷ rest) ≡ s → GoesOn names (read_items before last) (long_word first rest ∷ words)
+    go : (b : Bool) → is_option names (name_in first rest) ≡ b → (s : Bool) → has_byte 61 (first ∷ rest) ≡ s → ReadsOn names (read_items before last) (long_word first rest ∷ words)
     go false unknown s sign =
         let bad : kinds.UnknownArgument ∷ [] ≡ []
         = sym (unknown_faults names (holds before last) first rest unknown) ∙ no_fault_here names (at_item (holds before last)) (long_word first rest) words none in
@@ -210,7 +210,7 @@ found_more names word words fine found = record {
       (λ plain. let bad : kinds.UnknownArgument ∷ [] ≡ []
       = sym (stray_value names (holds before last) word plain) ∙ no_fault_here names (at_item (holds before last)) word words none in
       absurd (cc))
-      (λ (long : IsLong word). subst (λ w. faults_from names (at_item (holds before last)) (w ∷ words) ≡ [] → GoesOn names (read_items before last) (w ∷ words)) (sym long.is)
+      (λ (long : IsLong word). subst (λ w. faults_from names (at_item (holds before last)) (w ∷ words) ≡ [] → ReadsOn names (read_items before last) (w ∷ words)) (sym long.is)
       (found_long names before last long.first long.rest words known once found) none)
       (plain_or_long word fine);
   at_value_is = λ before name known once none. ⊎_elim
@@ -234,5 +234,5 @@ found_all names (word ∷ words) fine = found_more names word words (both_false 
 
 -- where `clap` has no fault to tell, the words are items
 pub items_found : (names : List Text) (words : List Text) → list_any is_stray words ≡ false
-    → faults_from names (at_item (holds [] None)) words ≡ [] → GoesOn names [] words
+    → faults_from names (at_item (holds [] None)) words ≡ [] → ReadsOn names [] words
 items_found names words fine none = (found_all names words fine).at_item_is [] None refl (λ i j d lt small. absurd (omega arith)) none

@@ -1,3 +1,4 @@
+-- The lemmas on words, on what `clap` makes of them, and on plans.
 pub mod Walking
 pub mod Reading
 pub mod Finding

@@ -75,22 +75,25 @@ same_text a b e = (bytes_eq-Decides a b).0 e
 pub text_is_itself : (a : Text) → bytes_eq a a ≡ true
 text_is_itself a = (bytes_eq-Decides a a).1 refl
 
--- the option of a name that is known, by its long name and by its id
-pub option_long : (names : List Text) (name : Text) → is_option names name ≡ true → arg_by_long (map ready names) name ≡ Some (ready name)
-option_long [] name known = absurd (true≢false (sym known))
-option_long (first ∷ rest) name known = go (bytes_eq first name) refl (option_long rest name)
+-- a look-up by name passes over the options of other names
+record IsLookUp (look_up : List Rule → Text → Option Rule) : Type 0 where
+  here : (first : Text) (rest : List Text) (name : Text) → bytes_eq first name ≡ true → look_up (map ready (first ∷ rest)) name ≡ Some (ready first)
+  later : (first : Text) (rest : List Text) (name : Text) → bytes_eq first name ≡ false → look_up (map ready (first ∷ rest)) name ≡ look_up (map ready rest) name
+
+-- it finds the option of a name that is known
+looked_up : (look_up : List Rule → Text → Option Rule) → IsLookUp look_up → (names : List Text) (name : Text) → is_option names name ≡ true → look_up (map ready names) name ≡ Some (ready name)
+looked_up look_up is [] name known = absurd (true≢false (sym known))
+looked_up look_up is (first ∷ rest) name known = go (bytes_eq first name) refl (looked_up look_up is rest name)
   where
-    go : (b : Bool) → bytes_eq first name ≡ b → (is_option rest name ≡ true → arg_by_long (map ready rest) name ≡ Some (ready name)) → arg_by_long (map ready (first ∷ rest)) name ≡ Some (ready name)
-    go true e later = rw e (ap (λ t. Some (ready t)) (same_text first name e))
-    go false e later = rw e (later (rw e at known))
+    go : (b : Bool) → bytes_eq first name ≡ b → (is_option rest name ≡ true → look_up (map ready rest) name ≡ Some (ready name)) → look_up (map ready (first ∷ rest)) name ≡ Some (ready name)
+    go true e found = is.here first rest name e ∙ ap (λ t. Some (ready t)) (same_text first name e)
+    go false e found = is.later first rest name e ∙ found (rw e at known)
+
+pub option_long : (names : List Text) (name : Text) → is_option names name ≡ true → arg_by_long (map ready names) name ≡ Some (ready name)
+option_long = looked_up arg_by_long (record { here = λ first rest name e. rw e refl; later = λ first rest name e. rw e refl })
 
 pub option_by_id : (names : List Text) (name : Text) → is_option names name ≡ true → arg_by_id (map ready names) name ≡ Some (ready name)
-option_by_id [] name known = absurd (true≢false (sym known))
-option_by_id (first ∷ rest) name known = go (bytes_eq first name) refl (option_by_id rest name)
-  where
-    go : (b : Bool) → bytes_eq first name ≡ b → (is_option rest name ≡ true → arg_by_id (map ready rest) name ≡ Some (ready name)) → arg_by_id (map ready (first ∷ rest)) name ≡ Some (ready name)
-    go true e later = rw e (ap (λ t. Some (ready t)) (same_text first name e))
-    go false e later = rw e (later (rw e at known))
+option_by_id = looked_up arg_by_id (record { here = λ first rest name e. rw e refl; later = λ first rest name e. rw e refl })
 
 pub no_option : (names : List Text) (name : Text) → is_option names name ≡ false → arg_by_long (map ready names) name ≡ None
 no_option [] name unknown = refl

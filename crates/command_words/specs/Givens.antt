@@ -4,14 +4,14 @@ use Rattle.std.specs.Borrow.{Bor}
 use Rattle.command_words.specs.Items.{Text, Item}
 use Rattle.command_words.specs.Plans.{HasItems, value_in}
 use Rattle.command_words.specs.declared.plan.Program.{Program}
-use Rattle.command_words.specs.declared.options.Given.{Given}
+use Rattle.command_words.specs.declared.options.OptionTexts.{OptionTexts}
 
 -- the text behind a reference, where there is one
 abbrev pub text_of : Option (Bor Text) → Option Text
 text_of = option_map (λ text. text.now)
 
 -- the words are items, and these are their values
-pub record HasValues (program : Program) (words : List Text) (given : Given) : Type 0 where
+pub record HasValues (program : Program) (words : List Text) (given : OptionTexts) : Type 0 where
   pub items : List Item
   pub spelled : HasItems program words items
   pub workers : text_of given.workers ≡ value_in items (codes "workers")

@@ -25,4 +25,5 @@ SpellsItem item words =
 -- The words are those of the items, one item after the other.
 abbrev pub SpellsItems : List Item → List Text → Type 0
 SpellsItems [] words = words ≡ []
-SpellsItems (item ∷ items) words = (first : List Text) × (rest : List Text) × (words ≡ first ++ rest) × SpellsItem item first × SpellsItems items rest
+SpellsItems (item ∷ items) words =
+    (first : List Text) × (rest : List Text) × (words ≡ first ++ rest) × SpellsItem item first × SpellsItems items rest

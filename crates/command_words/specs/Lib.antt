@@ -1,3 +1,4 @@
+-- The words of a command line, and the plan that they have.
 pub mod Items
 pub mod Values
 pub mod Plans

@@ -4,6 +4,7 @@ use Rattle.std.specs.List.{All, Contains}
 use Rattle.std.specs.Str.{bytes_eq}
 use Rattle.command_words.specs.Items.{Text, Item, SpellsItems}
 use Rattle.command_words.specs.Values.{IsNumberOf, IsImageOf, IsSeedOf}
+use Rattle.command_words.specs.declared.plan.TheConstants.{MAX_RECTS, MAX_WORKERS, USUAL_RECTS, USUAL_WORKERS}
 use Rattle.command_words.specs.declared.plan.Program.{Program}
 use Rattle.command_words.specs.declared.plan.Program.TheVariants.{Alone, Shared}
 use Rattle.command_words.specs.declared.plan.Plan.{Plan}
@@ -26,7 +27,7 @@ value_in items name = option_map (λ item. item.value) (find (λ item. bytes_eq 
 -- how many threads search where no word tells
 abbrev pub usual_workers : Program → ℕ
 usual_workers Alone = 1
-usual_workers Shared = 4
+usual_workers Shared = USUAL_WORKERS
 
 -- At most one of the two options is given.
 abbrev pub AreApart : Option Text → Option Text → Type 0
@@ -36,8 +37,8 @@ AreApart first second = (first ≡ None) ⊎ (second ≡ None)
 pub record HasPlan (program : Program) (words : List Text) (plan : Plan) : Type 0 where
   pub items : List Item
   pub spelled : HasItems program words items
-  pub workers : IsNumberOf (value_in items (codes "workers")) (usual_workers program) 1 64 plan.workers
-  pub rects : IsNumberOf (value_in items (codes "rects")) 32 1 256 plan.rects
+  pub workers : IsNumberOf (value_in items (codes "workers")) (usual_workers program) 1 MAX_WORKERS plan.workers
+  pub rects : IsNumberOf (value_in items (codes "rects")) USUAL_RECTS 1 MAX_RECTS plan.rects
   pub image : IsImageOf (value_in items (codes "image")) plan.image
   pub make : IsSeedOf (value_in items (codes "make")) plan.make
   pub apart : AreApart (value_in items (codes "image")) (value_in items (codes "make"))

@@ -2,16 +2,17 @@
 use Rattle.std.specs.Prelude.{◌≡◌, ◌≢◌, ◌<◌, ◌≤◌, ◌^◌, ℕ, [], Option, Some, None, MatchOption, length}
 use Rattle.std.specs.List.{All}
 use Rattle.std.specs.Str.Parse.{digits_value}
+use Rattle.command_words.specs.declared.plan.TheConstants.{MAX_DIGITS, MAX_NAME_BYTES}
 use Rattle.command_words.specs.Items.{Text}
 
 -- `0` to `9`
 abbrev pub IsDigit : ℕ → Type 0
 IsDigit byte = (48 ≤ byte) × (byte ≤ 57)
 
--- The text is of 1 to 20 decimal digits and nothing else, which write n. Zeros in front count.
+-- The text is of 1 to `MAX_DIGITS` decimal digits and nothing else, which write n. Zeros in front count.
 pub record SpellsNumber (text : Text) (n : ℕ) : Type 0 where
   pub some : 1 ≤ length text
-  pub short : length text ≤ 20
+  pub short : length text ≤ MAX_DIGITS
   pub digits : All IsDigit text
   pub value : digits_value 10 text ≡ n
 
@@ -47,10 +48,10 @@ pub record IsNameByte (byte : ℕ) : Type 0 where
   pub greater : byte ≢ 62
   pub backslash : byte ≢ 92
 
--- 1 to 255 such bytes
+-- 1 to `MAX_NAME_BYTES` such bytes
 pub record IsImageName (text : Text) : Type 0 where
   pub some : 1 ≤ length text
-  pub short : length text ≤ 255
+  pub short : length text ≤ MAX_NAME_BYTES
   pub bytes : All IsNameByte text
 
 -- The name is what the value of an option is, and empty where the option is not given.

@@ -3,12 +3,9 @@ ghost use Rattle.std.specs.Prelude.{◌≡◌, ◌↔◌, ◌≤◌, IsTrue, Lis
 ghost use Rattle.command_words.specs.Givens.{text_of};
 ghost use Rattle.command_words.specs.Values.{IsNameByte, IsImageName, IsImageOf};
 
-use crate::plan::WordFault;
+use crate::plan::{MAX_NAME_BYTES, WordFault};
 use layout_geom::Name;
 use std::alloc::Global;
-
-/// The most bytes of an image's name.
-const MOST_BYTES: usize = 255;
 
 /// Whether a byte may stand in an image's name: printable ASCII, and none of those that HTML or the
 /// text of a property give a meaning.
@@ -23,13 +20,13 @@ fn is_name_byte(byte: u8) -> bool
 fn is_image_name(text: &str) -> bool
     ensures allowed { IsTrue result ↔ IsImageName text.now }
 {
-    !text.is_empty() && text.len() <= MOST_BYTES && text.bytes().all(is_name_byte)
+    !text.is_empty() && text.len() <= MAX_NAME_BYTES && text.bytes().all(is_name_byte)
 }
 
 /// The image's name: the value of its option, and the empty name where that is not given.
 pub fn image_or_none(alloc: Global, text: Option<&str>) -> Result<Name, WordFault>
     ensures name { IfOk result (IsImageOf (text_of text.entry)) }
-    ensures letters { IfOk result (λ name. (length name ≤ 255) × All IsNameByte name) }
+    ensures letters { IfOk result (λ name. (length name ≤ MAX_NAME_BYTES) × All IsNameByte name) }
     ensures usage { IfErr result (λ fault. fault ≡ WordFault.Usage → (name : List ℕ) → ¬ IsImageOf (text_of text.entry) name) }
 {
     let Some(text) = text else {

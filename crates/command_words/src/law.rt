@@ -6,5 +6,6 @@ ghost use Rattle.command_words.specs.Plans.{HasPlan};
 
 /// Words have one plan at most. It is a law of the definition, and does nothing.
 pub fn words_have_one_plan()
-    ensures one_plan { (program : Program) (words : List (List ℕ)) (p q : Plan) → HasPlan program words p → HasPlan program words q → p ≡ q }
+    ensures one_plan { (program : Program) (words : List (List ℕ)) (p q : Plan)
+        → HasPlan program words p → HasPlan program words q → p ≡ q }
 {}

@@ -1,22 +1,20 @@
 //! Numbers of the command line: digits and nothing else.
-ghost use Rattle.std.specs.Prelude.{◌≡◌, ◌<◌, ◌≤◌, ◌^◌, ◌↔◌, ℕ, Option, IfOk, IfErr, IfSome, IfNone, IsTrue, length};
+ghost use Rattle.std.specs.Prelude.{◌≡◌, ◌<◌, ◌≤◌, ◌^◌, ◌↔◌, ℕ, Option, length};
+ghost use Rattle.std.specs.Prelude.{IfOk, IfErr, IfSome, IfNone, IsTrue};
 ghost use Rattle.std.specs.List.{All};
 ghost use Rattle.command_words.specs.Givens.{text_of};
 ghost use Rattle.command_words.specs.Values.{IsDigit, IsNumberOf, IsSeedOf, SpellsNumber};
 
-use crate::plan::WordFault;
+use crate::plan::{MAX_DIGITS, WordFault};
 
-/// The most digits of a number. Zeros in front count.
-const MOST_DIGITS: usize = 20;
-
-/// Whether a text has at most 20 bytes, and each is a digit.
+/// Whether a text has at most [`MAX_DIGITS`] bytes, and each is a digit.
 fn is_short_numeral(text: &str) -> bool
-    ensures short { IsTrue result ↔ ((length text.now ≤ 20) × All IsDigit text.now) }
+    ensures short { IsTrue result ↔ ((length text.now ≤ MAX_DIGITS) × All IsDigit text.now) }
 {
-    text.len() <= MOST_DIGITS && text.bytes().all(|byte| byte.is_ascii_digit())
+    text.len() <= MAX_DIGITS && text.bytes().all(|byte| byte.is_ascii_digit())
 }
 
-/// The number that a text of 1 to 20 digits spells, where a `u64` holds it.
+/// The number that a text of 1 to [`MAX_DIGITS`] digits spells, where a `u64` holds it.
 fn number_of(text: &str) -> Option<u64>
     ensures number { IfSome result (SpellsNumber text.now) }
     ensures none { IfNone result ((n : ℕ) → SpellsNumber text.now n → ¬ (n < 2 ^ 64)) }
@@ -32,7 +30,8 @@ pub fn number_or(text: Option<&str>, usual: u16, most: u16) -> Result<u16, WordF
     requires usual { (1 ≤ usual) × (usual ≤ most) }
     ensures number { IfOk result (IsNumberOf (text_of text.entry) usual 1 most) }
     ensures within { IfOk result (λ n. (1 ≤ n) × (n ≤ most)) }
-    ensures usage { IfErr result (λ fault. (fault ≡ WordFault.Usage) × ((n : ℕ) → ¬ IsNumberOf (text_of text.entry) usual 1 most n)) }
+    ensures usage { IfErr result (λ fault. (fault ≡ WordFault.Usage)
+        × ((n : ℕ) → ¬ IsNumberOf (text_of text.entry) usual 1 most n)) }
 {
     let Some(text) = text else {
         return Ok(usual);
@@ -47,7 +46,8 @@ pub fn number_or(text: Option<&str>, usual: u16, most: u16) -> Result<u16, WordF
 /// not given.
 pub fn seed_or_none(text: Option<&str>) -> Result<Option<u64>, WordFault>
     ensures seed { IfOk result (IsSeedOf (text_of text.entry)) }
-    ensures usage { IfErr result (λ fault. (fault ≡ WordFault.Usage) × ((seed : Option ℕ) → ¬ IsSeedOf (text_of text.entry) seed)) }
+    ensures usage { IfErr result (λ fault. (fault ≡ WordFault.Usage)
+        × ((seed : Option ℕ) → ¬ IsSeedOf (text_of text.entry) seed)) }
 {
     let Some(text) = text else {
         return Ok(None);

@@ -11,14 +11,19 @@ ghost use Rattle.command_words.specs.Strays.{is_stray};
 use crate::plan::{Program, WordFault};
 use clap::error::ErrorKind;
 use clap::{Arg, ArgMatches, Command};
-use std::alloc::{AllocError, Global};
+use layout_limits::OutOfMemory;
+use std::alloc::Global;
 
 /// The values of the options as they are written, each where its option is given.
 #[derive(Clone, Copy)]
-pub struct Given<'a> {
+pub struct OptionTexts<'a> {
+    /// How many threads shall search: a number.
     pub workers: Option<&'a str>,
+    /// How many white rectangles shall be searched for at most: a number.
     pub rects: Option<&'a str>,
+    /// The name of the page's image.
     pub image: Option<&'a str>,
+    /// The seed of a page that is made in place of one that is read: a number.
     pub make: Option<&'a str>,
 }
 
@@ -48,14 +53,14 @@ fn with_option<'a>(
     alloc: Global,
     command: Command<'a>,
     name: &'a str,
-) -> Result<Command<'a>, AllocError>
+) -> Result<Command<'a>, OutOfMemory>
     ensures app { IfOk result (λ more. app_of more ≡ with_rule (app_of command.entry) (option_rule name.entry.now)) }
 {
     command.arg(Arg::new(alloc, name).long(name))
 }
 
 /// The command with the options of the program.
-fn command<'a>(alloc: Global, program: Program) -> Result<Command<'a>, AllocError>
+fn command<'a>(alloc: Global, program: Program) -> Result<Command<'a>, OutOfMemory>
     ensures app { IfOk result (λ command. app_of command ≡ app_for program) }
 {
     let bare = bare_command(alloc);
@@ -113,7 +118,7 @@ pub fn read_options<'a>(
     alloc: Global,
     words: &'a [String],
     program: Program,
-) -> Result<Given<'a>, WordFault>
+) -> Result<OptionTexts<'a>, WordFault>
     ensures values { IfOk result (HasValues program (map string_bytes words.now)) }
     ensures usage { IfErr result (λ fault. fault ≡ WordFault.Usage
         → (items : List Item) → ¬ HasItems program (map string_bytes words.now) items) }
@@ -122,7 +127,7 @@ pub fn read_options<'a>(
         return Err(WordFault::Usage);
     }
     let matches = matches_of_words(alloc, words, program)?;
-    Ok(Given {
+    Ok(OptionTexts {
         workers: matches.get_str("workers"),
         rects: matches.get_str("rects"),
         image: matches.get_str("image"),

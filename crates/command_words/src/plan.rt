@@ -1,6 +1,24 @@
 //! What a command line asks for, and how it can fail to ask.
 use layout_geom::Name;
-use std::alloc::AllocError;
+use layout_limits::OutOfMemory;
+
+/// The most white rectangles that can be asked for.
+pub const MAX_RECTS: u16 = 256;
+
+/// How many white rectangles are searched for at most, where no word tells.
+pub const USUAL_RECTS: u16 = 32;
+
+/// The most threads that can be asked for.
+pub const MAX_WORKERS: u16 = 64;
+
+/// How many threads of `layout` search, where no word tells.
+pub const USUAL_WORKERS: u16 = 4;
+
+/// The most bytes of an image's name.
+pub const MAX_NAME_BYTES: usize = 255;
+
+/// The most digits of a number among the words. Zeros in front count.
+pub const MAX_DIGITS: usize = 20;
 
 /// The program whose words they are: `layout1`, which works on one thread, or `layout`, which
 /// shares the work among several.
@@ -15,12 +33,14 @@ pub enum Program {
 /// What a run shall do.
 #[derive(Drop)]
 pub struct Plan {
-    /// How many white rectangles are searched for at most: 1 to 256, and 32 where no word tells.
+    /// How many white rectangles are searched for at most: 1 to [`MAX_RECTS`], and
+    /// [`USUAL_RECTS`] where no word tells.
     pub rects: u16,
-    /// How many threads search: 1 to 64, and 4 where no word tells. `layout1` has 1.
+    /// How many threads search: 1 to [`MAX_WORKERS`], and [`USUAL_WORKERS`] where no word tells.
+    /// `layout1` has 1.
     pub workers: u16,
-    /// The bytes of the image's name, as hOCR's property `image` has it: at most 255 printable ASCII
-    /// bytes. It is empty where no word tells.
+    /// The bytes of the image's name, as hOCR's property `image` has it: at most [`MAX_NAME_BYTES`]
+    /// printable ASCII bytes. It is empty where no word tells.
     pub image: Name,
     /// The seed from which a page is made, where it is not read: none where no word tells. A plan
     /// with a seed has no name of an image.
@@ -36,13 +56,13 @@ pub enum WordFault {
     Memory,
 }
 
-impl From<AllocError> for WordFault {
+impl From<OutOfMemory> for WordFault {
     ghost use Rattle.std.specs.Prelude.{◌≡◌};
     ghost use Rattle.command_words.specs.declared.plan.WordFault.TheVariants.{Memory};
 
     ghost from_gives = { λ _ fault. fault ≡ Memory };
 
-    fn from(_: AllocError) -> WordFault {
+    fn from(_: OutOfMemory) -> WordFault {
         WordFault::Memory
     }
 }

@@ -7,19 +7,10 @@ ghost use Rattle.command_words.specs.Values.{IsNameByte};
 use crate::image::image_or_none;
 use crate::number::{number_or, seed_or_none};
 use crate::options::read_options;
-use crate::plan::{Plan, Program, WordFault};
+use crate::plan::{
+    MAX_NAME_BYTES, MAX_RECTS, MAX_WORKERS, Plan, Program, USUAL_RECTS, USUAL_WORKERS, WordFault,
+};
 use std::alloc::Global;
-
-/// The most white rectangles that can be asked for, and how many are searched for where no word
-/// tells.
-const MOST_RECTS: u16 = 256;
-
-const USUAL_RECTS: u16 = 32;
-
-/// The most threads that can be asked for, and how many search where no word tells.
-const MOST_WORKERS: u16 = 64;
-
-const USUAL_WORKERS: u16 = 4;
 
 /// How many threads search where no word tells.
 fn workers_of(program: Program) -> u16
@@ -41,9 +32,9 @@ fn are_apart(first: Option<&str>, second: Option<&str>) -> bool
 /// The plan of the words behind the program's name, or `Usage` exactly where they have none.
 pub fn words_of(alloc: Global, words: &[String], program: Program) -> Result<Plan, WordFault>
     ensures plan { IfOk result (HasPlan program (map string_bytes words.now)) }
-    ensures rects { IfOk result (λ plan. (1 ≤ plan.rects) × (plan.rects ≤ 256)) }
-    ensures workers { IfOk result (λ plan. (1 ≤ plan.workers) × (plan.workers ≤ 64)) }
-    ensures image { IfOk result (λ plan. (length plan.image ≤ 255) × All IsNameByte plan.image) }
+    ensures rects { IfOk result (λ plan. (1 ≤ plan.rects) × (plan.rects ≤ MAX_RECTS)) }
+    ensures workers { IfOk result (λ plan. (1 ≤ plan.workers) × (plan.workers ≤ MAX_WORKERS)) }
+    ensures image { IfOk result (λ plan. (length plan.image ≤ MAX_NAME_BYTES) × All IsNameByte plan.image) }
     ensures usage { IfErr result (λ fault. fault ≡ WordFault.Usage
         → HasNoPlan program (map string_bytes words.now)) }
 {
@@ -51,8 +42,8 @@ pub fn words_of(alloc: Global, words: &[String], program: Program) -> Result<Pla
     if !are_apart(given.image, given.make) {
         return Err(WordFault::Usage);
     }
-    let workers = number_or(given.workers, workers_of(program), MOST_WORKERS)?;
-    let rects = number_or(given.rects, USUAL_RECTS, MOST_RECTS)?;
+    let workers = number_or(given.workers, workers_of(program), MAX_WORKERS)?;
+    let rects = number_or(given.rects, USUAL_RECTS, MAX_RECTS)?;
     let make = seed_or_none(given.make)?;
     let image = image_or_none(alloc, given.image)?;
     Ok(Plan {

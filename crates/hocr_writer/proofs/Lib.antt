@@ -1,3 +1,4 @@
+-- The lemmas on growing texts and on whole layouts.
 pub mod Joined
 pub mod Growing
 pub mod Images

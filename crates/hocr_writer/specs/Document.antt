@@ -6,23 +6,27 @@ use Rattle.layout_geom.specs.declared.area.Area.{Area}
 use Rattle.layout_geom.specs.declared.order.Order.{Order}
 use Rattle.layout_geom.specs.declared.order.Order.TheVariants.{Topological, Cycle}
 use Rattle.hocr_writer.specs.declared.layout.Layout.{Layout}
-use Rattle.hocr_writer.specs.Pieces.{joined, numbered, box_front}
+use Rattle.hocr_writer.specs.Pieces.{joined_pieces, numbered_pieces, box_front}
 use Rattle.hocr_writer.specs.Listing.{listing_of}
 use Rattle.hocr_writer.specs.Lines.{line_of}
 
--- The numbers of a cycle of lines, each behind a space.
+-- The number of a line of a cycle, behind a space, whatever its place there.
+abbrev pub cycle_number : ℕ → ℕ → List ℕ
+cycle_number place line = joined_pieces (codes " " ∷ decimal line ∷ [])
+
+-- The numbers of a cycle of lines.
 abbrev pub cycle_text : List ℕ → List ℕ
-cycle_text cycle = joined (codes "cycle" ∷ joined (numbered (λ place line. joined (codes " " ∷ decimal line ∷ [])) 0 cycle) ∷ [])
+cycle_text cycle = joined_pieces (codes "cycle" ∷ joined_pieces (numbered_pieces cycle_number 0 cycle) ∷ [])
 
 -- How the text lines of the page are ordered: whether there is an order, or else a cycle that forbids it.
-abbrev pub order_text : Order → List ℕ
+unfoldable pub order_text : Order → List ℕ
 order_text (Topological order) = codes "topological"
 order_text (Cycle cycle) = cycle_text cycle
 
 -- The same, behind the page's number.
-abbrev pub order_line : Layout → List ℕ
+unfoldable pub order_line : Layout → List ℕ
 order_line layout =
-    joined
+    joined_pieces
     (codes "<meta name='layout-order' content='"
     ∷ decimal layout.page
     ∷ codes " "
@@ -31,14 +35,14 @@ order_line layout =
     ∷ [])
 
 -- The name of the page's image, where it has one.
-abbrev pub image_text : List ℕ → List ℕ
+unfoldable pub image_text : List ℕ → List ℕ
 image_text [] = []
-image_text (byte ∷ bytes) = joined (codes "image \"" ∷ (byte ∷ bytes) ∷ codes "\"; " ∷ [])
+image_text (byte ∷ bytes) = joined_pieces (codes "image \"" ∷ (byte ∷ bytes) ∷ codes "\"; " ∷ [])
 
 -- The page's element begins. Its title has the name of its image, its box, number and count of black pixels.
-abbrev pub page_line : Layout → List ℕ
+unfoldable pub page_line : Layout → List ℕ
 page_line layout =
-    joined
+    joined_pieces
     (codes "<div class='ocr_page' id='page_"
     ∷ decimal layout.page
     ∷ codes "' title='"
@@ -56,7 +60,7 @@ page_line layout =
 
 -- An element of nothing but its box.
 abbrev pub box_line : List ℕ → ℕ → ℕ → Rect → List ℕ
-box_line opening page number box = joined (box_front opening page number box ∷ codes "'></div>\n" ∷ [])
+box_line opening page number box = joined_pieces (box_front opening page number box ∷ codes "'></div>\n" ∷ [])
 
 -- A white rectangle of the page, by its number and its box.
 abbrev pub white_line : ℕ → ℕ → Rect → List ℕ
@@ -68,25 +72,29 @@ gutter_line page = box_line (codes "<div class='ocr_separator' id='gutter_") pag
 
 -- An area begins, by its number and its box.
 abbrev pub area_line : ℕ → ℕ → Rect → List ℕ
-area_line page number box = joined (box_front (codes "<div class='ocr_carea' id='area_") page number box ∷ codes "'>\n" ∷ [])
+area_line page number box = joined_pieces (box_front (codes "<div class='ocr_carea' id='area_") page number box ∷ codes "'>\n" ∷ [])
 
 -- The numbers of the lines of an area, in the order of the listing.
 abbrev pub lines_in : Layout → Area → List ℕ
 lines_in layout area = take area.count (drop area.first (listing_of layout))
 
+-- A line of an area, by its number, whatever its place there.
+abbrev pub placed_line : Layout → ℕ → ℕ → List ℕ
+placed_line layout place line = line_of layout line
+
 -- A whole area: where it begins, its lines in the order of the listing, and where it ends.
 abbrev pub area_text : Layout → ℕ → Area → List ℕ
 area_text layout number area =
-    joined
+    joined_pieces
     (area_line layout.page number area.bbox
-    ∷ joined (numbered (λ place line. line_of layout line) 0 (lines_in layout area))
+    ∷ joined_pieces (numbered_pieces (placed_line layout) 0 (lines_in layout area))
     ∷ codes "</div>\n"
     ∷ [])
 
--- The whole document. What is found on the page stands between the page's line and the last `</div>`.
-unfoldable pub document_of : Layout → List ℕ
-document_of layout =
-    joined
+-- What stands in front of the body.
+unfoldable pub head_text : Layout → List ℕ
+head_text layout =
+    joined_pieces
     (codes "<!DOCTYPE html>\n"
     ∷ codes "<html>\n"
     ∷ codes "<head>\n"
@@ -96,12 +104,20 @@ document_of layout =
     ∷ codes "<meta name='ocr-capabilities' content='ocr_page ocr_carea ocr_line ocr_separator'>\n"
     ∷ order_line layout
     ∷ codes "</head>\n"
-    ∷ codes "<body>\n"
-    ∷ page_line layout
-    ∷ joined (numbered (white_line layout.page) 0 layout.whites)
-    ∷ joined (numbered (gutter_line layout.page) 0 layout.gutters)
-    ∷ joined (numbered (area_text layout) 0 layout.areas)
-    ∷ codes "</div>\n"
-    ∷ codes "</body>\n"
-    ∷ codes "</html>\n"
     ∷ [])
+
+-- The page's element, with all that was found on the page.
+unfoldable pub page_text : Layout → List ℕ
+page_text layout =
+    joined_pieces
+    (page_line layout
+    ∷ joined_pieces (numbered_pieces (white_line layout.page) 0 layout.whites)
+    ∷ joined_pieces (numbered_pieces (gutter_line layout.page) 0 layout.gutters)
+    ∷ joined_pieces (numbered_pieces (area_text layout) 0 layout.areas)
+    ∷ codes "</div>\n"
+    ∷ [])
+
+-- The whole document.
+unfoldable pub document_of : Layout → List ℕ
+document_of layout =
+    joined_pieces (head_text layout ∷ codes "<body>\n" ∷ page_text layout ∷ codes "</body>\n" ∷ codes "</html>\n" ∷ [])

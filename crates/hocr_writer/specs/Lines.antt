@@ -1,11 +1,12 @@
 -- The element of a text line: its box and its baseline.
-use Rattle.std.specs.Prelude.{ℕ, ◌+◌, ◌/◌, ◌%◌, ℤ, pos, negsuc, ◌-ℤ◌, unsigned_abs, List, [], ◌∷◌, Option, Some, None, codes}
+use Rattle.std.specs.Prelude.{ℕ, ◌+◌, ◌/◌, ◌%◌, ℤ, pos, negsuc, ◌-ℤ◌, unsigned_abs, List, [], ◌∷◌, codes}
+use Rattle.std.specs.Prelude.{Option, Some, None}
 use Rattle.std.specs.List.{slice_get}
 use Rattle.std.specs.Fmt.{signed_decimal}
 use Rattle.line_quality.specs.Points.{height_at}
 use Rattle.hocr_writer.specs.declared.layout.Layout.{Layout}
 use Rattle.hocr_writer.specs.declared.layout.Mark.{Mark}
-use Rattle.hocr_writer.specs.Pieces.{joined, box_front}
+use Rattle.hocr_writer.specs.Pieces.{joined_pieces, box_front}
 
 -- A number below 1000 in three digits.
 abbrev pub three_digits : ℕ → List ℕ
@@ -17,7 +18,7 @@ sign_text (negsuc steps) = codes "-"
 
 -- The slope of a line, from its thousandths, with three decimals.
 abbrev pub slope_text : ℤ → List ℕ
-slope_text slope = joined (sign_text slope ∷ codes "0." ∷ three_digits (unsigned_abs slope) ∷ [])
+slope_text slope = joined_pieces (sign_text slope ∷ codes "0." ∷ three_digits (unsigned_abs slope) ∷ [])
 
 -- How far below the bottom edge of its box the baseline begins, at the box's left edge. It is
 -- negative where the baseline begins above that edge.
@@ -27,7 +28,7 @@ constant_of mark = height_at mark.slope mark.offset mark.bbox.x0 -ℤ pos mark.b
 -- A text line, by its number.
 abbrev pub mark_line : ℕ → ℕ → Mark → List ℕ
 mark_line page number mark =
-    joined
+    joined_pieces
     (box_front (codes "<span class='ocr_line' id='line_") page number mark.bbox
     ∷ codes "; baseline "
     ∷ slope_text mark.slope

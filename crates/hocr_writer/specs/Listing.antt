@@ -17,11 +17,15 @@ listing (Cycle cycle) count = range_with_len 0 count
 abbrev pub listing_of : Layout → List ℕ
 listing_of layout = listing layout.order (length layout.lines)
 
+-- No two of the numbers are equal.
+abbrev pub AreDistinct : List ℕ → Type 0
+AreDistinct numbers = (i j : ℕ) → i < j → j < length numbers → slice_index numbers i ≡ slice_index numbers j → ⊥
+
 -- Each of the numbers below a count stands once.
 pub record HasEachOnce (count : ℕ) (numbers : List ℕ) : Type 0 where
   pub long : length numbers ≡ count
   pub below : All (λ number. number < count) numbers
-  pub apart : (i j : ℕ) → i < j → j < length numbers → slice_index numbers i ≡ slice_index numbers j → ⊥
+  pub apart : AreDistinct numbers
 
 -- An order has each of so many lines once; a cycle has none but these.
 abbrev pub NamesLines : Order → ℕ → Type 0
@@ -39,7 +43,7 @@ pub record IsMark (mark : Mark) : Type 0 where
   pub offset : IsOffset mark.offset
 
 -- A layout that can be written.
-pub record IsWhole (layout : Layout) : Type 0 where
+pub record IsWholeLayout (layout : Layout) : Type 0 where
   pub order : NamesLines layout.order (length layout.lines)
   pub areas : SplitListing 0 (length layout.lines) layout.areas
   pub marks : All IsMark layout.lines

@@ -1,19 +1,18 @@
 //! The areas of a page, with the text lines that stand in them.
 ghost use Rattle.std.specs.Prelude.{◌≡◌, ◌+◌, ◌<◌, ◌≤◌, ◌++◌, length, slice_index, OnOk};
-ghost use Rattle.hocr_writer.specs.Pieces.{joined, numbered};
-ghost use Rattle.hocr_writer.specs.Listing.{listing_of, NamesLines, IsWhole};
-ghost use Rattle.hocr_writer.specs.Lines.{line_of};
-ghost use Rattle.hocr_writer.specs.Document.{lines_in, area_line, area_text};
+ghost use Rattle.hocr_writer.specs.Pieces.{joined_pieces, numbered_pieces};
+ghost use Rattle.hocr_writer.specs.Listing.{listing_of, NamesLines, IsWholeLayout};
+ghost use Rattle.hocr_writer.specs.Document.{placed_line, lines_in, area_line, area_text};
 
 use crate::boxes::put_box_front;
 use crate::layout::Layout;
 use crate::lines::put_mark;
-use crate::text::Text;
+use crate::text::TextBuffer;
 use layout_geom::{Area, Order, Rect};
-use std::alloc::AllocError as OutOfMemory;
+use layout_limits::OutOfMemory;
 
 // The number of the line at a position of the listing.
-fn line_at(layout: &Layout, position: usize) -> usize
+fn number_at(layout: &Layout, position: usize) -> usize
     requires names { NamesLines layout.now.order (length layout.now.lines) }
     requires within { position < length (listing_of layout.now) }
     ensures line { result ≡ slice_index (listing_of layout.now) position }
@@ -26,7 +25,7 @@ fn line_at(layout: &Layout, position: usize) -> usize
 }
 
 // An area begins.
-fn put_area_line(text: &mut Text, page: u32, number: usize, bbox: &Rect) -> Result<(), OutOfMemory>
+fn put_area_line(text: &mut TextBuffer, page: u32, number: usize, bbox: &Rect) -> Result<(), OutOfMemory>
     ensures grown { OnOk result (text.new ≡ text.old ++ area_line page number bbox.now) }
 {
     put_box_front(
@@ -41,21 +40,21 @@ fn put_area_line(text: &mut Text, page: u32, number: usize, bbox: &Rect) -> Resu
 }
 
 // The lines of an area, in the order of the listing.
-fn put_lines(text: &mut Text, layout: &Layout, area: &Area) -> Result<(), OutOfMemory>
+fn put_lines(text: &mut TextBuffer, layout: &Layout, area: &Area) -> Result<(), OutOfMemory>
     requires names { NamesLines layout.now.order (length layout.now.lines) }
     requires within { area.now.first + area.now.count ≤ length (listing_of layout.now) }
-    ensures grown { OnOk result (text.new ≡ text.old ++ joined (numbered (λ place line. line_of layout.now line) 0 (lines_in layout.now area.now))) }
+    ensures grown { OnOk result (text.new ≡ text.old ++ joined_pieces (numbered_pieces (placed_line layout.now) 0 (lines_in layout.now area.now))) }
 {
     let first = area.first as usize;
     for place in 0..area.count as usize {
-        let number = line_at(layout, first + place);
+        let number = number_at(layout, first + place);
         put_mark(text, layout.page, number, *layout.lines.get(number))?;
     }
     Ok(())
 }
 
 // An area of a number, with its lines.
-fn put_area(text: &mut Text, layout: &Layout, number: usize, area: &Area) -> Result<(), OutOfMemory>
+fn put_area(text: &mut TextBuffer, layout: &Layout, number: usize, area: &Area) -> Result<(), OutOfMemory>
     requires names { NamesLines layout.now.order (length layout.now.lines) }
     requires within { area.now.first + area.now.count ≤ length (listing_of layout.now) }
     ensures grown { OnOk result (text.new ≡ text.old ++ area_text layout.now number area.now) }
@@ -67,9 +66,9 @@ fn put_area(text: &mut Text, layout: &Layout, number: usize, area: &Area) -> Res
 }
 
 /// The areas of a page, in the order of the listing and numbered from 0.
-pub fn put_areas(text: &mut Text, layout: &Layout) -> Result<(), OutOfMemory>
-    requires { IsWhole layout.now }
-    ensures grown { OnOk result (text.new ≡ text.old ++ joined (numbered (area_text layout.now) 0 layout.now.areas)) }
+pub fn put_areas(text: &mut TextBuffer, layout: &Layout) -> Result<(), OutOfMemory>
+    requires { IsWholeLayout layout.now }
+    ensures grown { OnOk result (text.new ≡ text.old ++ joined_pieces (numbered_pieces (area_text layout.now) 0 layout.now.areas)) }
 {
     for (number, area) in layout.areas.as_slice().iter().enumerate() {
         put_area(text, layout, number, area)?;

@@ -1,14 +1,15 @@
-//! The lines of boxes: an empty element for each box of a list.
+//! The lines of boxes: an element of nothing but its box for each box of a list.
 ghost use Rattle.std.specs.Prelude.{◌≡◌, ◌++◌, OnOk};
-ghost use Rattle.hocr_writer.specs.Pieces.{joined, numbered, box_text, box_front};
+ghost use Rattle.hocr_writer.specs.Pieces.{joined_pieces, numbered_pieces, box_text, box_front};
 ghost use Rattle.hocr_writer.specs.Document.{box_line};
 
-use crate::text::Text;
-use layout_geom::Rect;
-use std::alloc::AllocError as OutOfMemory;
+use crate::text::TextBuffer;
+use layout_geom::{Rect, Rects};
+use layout_limits::OutOfMemory;
 
 // The sides of a box, as they stand behind hOCR's `bbox`.
-fn put_box(text: &mut Text, bbox: &Rect) -> Result<(), OutOfMemory>
+#[tactic(auto, using(crate::proofs::Joined::growing), unfolding(crate::specs::Pieces::box_text))]
+fn put_box(text: &mut TextBuffer, bbox: &Rect) -> Result<(), OutOfMemory>
     ensures grown { OnOk result (text.new ≡ text.old ++ box_text bbox.now) }
 {
     text.push_number(bbox.x0)?;
@@ -22,8 +23,9 @@ fn put_box(text: &mut Text, bbox: &Rect) -> Result<(), OutOfMemory>
 }
 
 /// The front of an element, up to its box. What it opens with ends in the front of its `id`.
+#[tactic(auto, using(crate::proofs::Joined::growing), unfolding(crate::specs::Pieces::box_front))]
 pub fn put_box_front(
-    text: &mut Text,
+    text: &mut TextBuffer,
     opening: &[u8],
     page: u32,
     number: usize,
@@ -40,32 +42,18 @@ pub fn put_box_front(
     Ok(())
 }
 
-// An element of nothing but its box.
-fn put_box_line(
-    text: &mut Text,
-    opening: &[u8],
-    page: u32,
-    number: usize,
-    bbox: &Rect,
-) -> Result<(), OutOfMemory>
-    ensures grown { OnOk result (text.new ≡ text.old ++ box_line opening.now page number bbox.now) }
-{
-    put_box_front(text, opening, page, number, bbox)?;
-    text.push(b"'></div>\n")?;
-    Ok(())
-}
-
 /// A line for each box, in the order of the list and numbered from 0.
 pub fn put_box_lines(
-    text: &mut Text,
+    text: &mut TextBuffer,
     opening: &[u8],
     page: u32,
-    boxes: &[Rect],
+    boxes: &Rects,
 ) -> Result<(), OutOfMemory>
-    ensures grown { OnOk result (text.new ≡ text.old ++ joined (numbered (box_line opening.now page) 0 boxes.now)) }
+    ensures grown { OnOk result (text.new ≡ text.old ++ joined_pieces (numbered_pieces (box_line opening.now page) 0 boxes.now)) }
 {
-    for (number, bbox) in boxes.iter().enumerate() {
-        put_box_line(text, opening, page, number, bbox)?;
+    for (number, bbox) in boxes.as_slice().iter().enumerate() {
+        put_box_front(text, opening, page, number, bbox)?;
+        text.push(b"'></div>\n")?;
     }
     Ok(())
 }

@@ -1,19 +1,21 @@
 //! The document of a layout.
 ghost use Rattle.std.specs.Prelude.{◌≡◌, ◌++◌, OnOk, IfOk};
-ghost use Rattle.hocr_writer.specs.Pieces.{joined, numbered};
-ghost use Rattle.hocr_writer.specs.Listing.{IsWhole};
-ghost use Rattle.hocr_writer.specs.Document.{image_text, page_line, white_line, gutter_line, document_of};
+ghost use Rattle.hocr_writer.specs.Pieces.{joined_pieces, numbered_pieces};
+ghost use Rattle.hocr_writer.specs.Listing.{IsWholeLayout};
+ghost use Rattle.hocr_writer.specs.Document.{image_text, page_line, white_line, gutter_line, head_text, page_text, document_of};
 
 use crate::areas::put_areas;
 use crate::boxes::put_box_lines;
 use crate::layout::Layout;
 use crate::order::put_order_line;
-use crate::text::Text;
+use crate::text::TextBuffer;
 use layout_geom::Name;
-use std::alloc::{AllocError as OutOfMemory, Global};
+use layout_limits::OutOfMemory;
+use std::alloc::Global;
 
 // The name of an image, where there is one.
-fn put_image(text: &mut Text, image: &Name) -> Result<(), OutOfMemory>
+#[tactic(auto, using(crate::proofs::Joined::growing), unfolding(crate::specs::Document::image_text))]
+fn put_image(text: &mut TextBuffer, image: &Name) -> Result<(), OutOfMemory>
     ensures grown { OnOk result (text.new ≡ text.old ++ image_text image.now) }
 {
     if image.is_empty() {
@@ -26,7 +28,8 @@ fn put_image(text: &mut Text, image: &Name) -> Result<(), OutOfMemory>
 }
 
 // The page's element begins.
-fn put_page_line(text: &mut Text, layout: &Layout) -> Result<(), OutOfMemory>
+#[tactic(auto, using(crate::proofs::Joined::growing), unfolding(crate::specs::Document::page_line))]
+fn put_page_line(text: &mut TextBuffer, layout: &Layout) -> Result<(), OutOfMemory>
     ensures grown { OnOk result (text.new ≡ text.old ++ page_line layout.now) }
 {
     text.push(b"<div class='ocr_page' id='page_")?;
@@ -46,19 +49,66 @@ fn put_page_line(text: &mut Text, layout: &Layout) -> Result<(), OutOfMemory>
 }
 
 // A line for each white rectangle.
-fn put_whites(text: &mut Text, layout: &Layout) -> Result<(), OutOfMemory>
-    ensures grown { OnOk result (text.new ≡ text.old ++ joined (numbered (white_line layout.now.page) 0 layout.now.whites)) }
+fn put_whites(text: &mut TextBuffer, layout: &Layout) -> Result<(), OutOfMemory>
+    ensures grown { OnOk result (text.new ≡ text.old ++ joined_pieces (numbered_pieces (white_line layout.now.page) 0 layout.now.whites)) }
 {
     let opening = b"<div class='ocrx_whitespace' id='white_";
-    put_box_lines(text, opening, layout.page, layout.whites.as_slice())
+    put_box_lines(text, opening, layout.page, &layout.whites)
 }
 
 // A line for each gutter.
-fn put_gutters(text: &mut Text, layout: &Layout) -> Result<(), OutOfMemory>
-    ensures grown { OnOk result (text.new ≡ text.old ++ joined (numbered (gutter_line layout.now.page) 0 layout.now.gutters)) }
+fn put_gutters(text: &mut TextBuffer, layout: &Layout) -> Result<(), OutOfMemory>
+    ensures grown { OnOk result (text.new ≡ text.old ++ joined_pieces (numbered_pieces (gutter_line layout.now.page) 0 layout.now.gutters)) }
 {
     let opening = b"<div class='ocr_separator' id='gutter_";
-    put_box_lines(text, opening, layout.page, layout.gutters.as_slice())
+    put_box_lines(text, opening, layout.page, &layout.gutters)
+}
+
+// What stands in front of the body.
+#[tactic(auto, using(crate::proofs::Joined::growing), unfolding(crate::specs::Document::head_text))]
+fn put_head(text: &mut TextBuffer, layout: &Layout) -> Result<(), OutOfMemory>
+    ensures grown { OnOk result (text.new ≡ text.old ++ head_text layout.now) }
+{
+    text.push(b"<!DOCTYPE html>\n")?;
+    text.push(b"<html>\n")?;
+    text.push(b"<head>\n")?;
+    text.push(b"<title>layout</title>\n")?;
+    text.push(b"<meta charset='utf-8'>\n")?;
+    text.push(b"<meta name='ocr-system' content='layout'>\n")?;
+    text.push(
+        b"<meta name='ocr-capabilities' content='ocr_page ocr_carea ocr_line ocr_separator'>\n",
+    )?;
+    put_order_line(text, layout)?;
+    text.push(b"</head>\n")?;
+    Ok(())
+}
+
+// The page's element, with all that was found on the page.
+#[tactic(auto, using(crate::proofs::Joined::growing), unfolding(crate::specs::Document::page_text))]
+fn put_page(text: &mut TextBuffer, layout: &Layout) -> Result<(), OutOfMemory>
+    requires { IsWholeLayout layout.now }
+    ensures grown { OnOk result (text.new ≡ text.old ++ page_text layout.now) }
+{
+    put_page_line(text, layout)?;
+    put_whites(text, layout)?;
+    put_gutters(text, layout)?;
+    put_areas(text, layout)?;
+    text.push(b"</div>\n")?;
+    Ok(())
+}
+
+// The whole document.
+#[tactic(auto, using(crate::proofs::Joined::growing), unfolding(crate::specs::Document::document_of))]
+fn put_document(text: &mut TextBuffer, layout: &Layout) -> Result<(), OutOfMemory>
+    requires { IsWholeLayout layout.now }
+    ensures grown { OnOk result (text.new ≡ text.old ++ document_of layout.now) }
+{
+    put_head(text, layout)?;
+    text.push(b"<body>\n")?;
+    put_page(text, layout)?;
+    text.push(b"</body>\n")?;
+    text.push(b"</html>\n")?;
+    Ok(())
 }
 
 /// The document of a layout, in the manner of hOCR 1.2: an HTML file whose `ocr_page` element has
@@ -73,28 +123,10 @@ fn put_gutters(text: &mut Text, layout: &Layout) -> Result<(), OutOfMemory>
 ///
 /// Want of memory is the one refusal.
 pub fn hocr_text(alloc: Global, layout: &Layout) -> Result<Vec<u8>, OutOfMemory>
-    requires { IsWhole layout.now }
+    requires { IsWholeLayout layout.now }
     ensures written { IfOk result (λ text. text.items ≡ document_of layout.now) }
 {
-    let mut text = Text::new(alloc);
-    text.push(b"<!DOCTYPE html>\n")?;
-    text.push(b"<html>\n")?;
-    text.push(b"<head>\n")?;
-    text.push(b"<title>layout</title>\n")?;
-    text.push(b"<meta charset='utf-8'>\n")?;
-    text.push(b"<meta name='ocr-system' content='layout'>\n")?;
-    text.push(
-        b"<meta name='ocr-capabilities' content='ocr_page ocr_carea ocr_line ocr_separator'>\n",
-    )?;
-    put_order_line(&mut text, layout)?;
-    text.push(b"</head>\n")?;
-    text.push(b"<body>\n")?;
-    put_page_line(&mut text, layout)?;
-    put_whites(&mut text, layout)?;
-    put_gutters(&mut text, layout)?;
-    put_areas(&mut text, layout)?;
-    text.push(b"</div>\n")?;
-    text.push(b"</body>\n")?;
-    text.push(b"</html>\n")?;
+    let mut text = TextBuffer::new(alloc);
+    put_document(&mut text, layout)?;
     Ok(text.into_bytes())
 }

@@ -13,7 +13,7 @@ pub struct Mark {
     pub offset: i16,
 }
 
-/// Text lines, each named by its place.
+/// TextBuffer lines, each named by its place.
 pub type Marks = Items<Mark>;
 
 /// What was found on a page: what its document tells.

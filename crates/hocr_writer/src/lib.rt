@@ -1,5 +1,5 @@
 //! Writes the layout of a page as a document in the manner of hOCR 1.2, and as a summary of its counts.
-#![tactic(auto)]
+#![tactic(auto, using(crate::proofs::Joined::growing))]
 
 mod areas;
 mod boxes;
@@ -15,5 +15,4 @@ mod whole;
 
 pub use document::hocr_text;
 pub use layout::{Layout, Mark, Marks};
-pub use std::alloc::AllocError as OutOfMemory;
 pub use summary::summary_text;

@@ -4,9 +4,9 @@ ghost use Rattle.hocr_writer.specs.Lines.{sign_text, slope_text, constant_of, ma
 
 use crate::boxes::put_box_front;
 use crate::layout::Mark;
-use crate::text::Text;
+use crate::text::TextBuffer;
 use line_quality::height_at;
-use std::alloc::AllocError as OutOfMemory;
+use layout_limits::OutOfMemory;
 
 // The sign of a number, where it is negative.
 fn sign(slope: i8) -> &'static [u8]
@@ -16,7 +16,7 @@ fn sign(slope: i8) -> &'static [u8]
 }
 
 // A slope in thousandths, with three decimals.
-fn put_slope(text: &mut Text, slope: i8) -> Result<(), OutOfMemory>
+fn put_slope(text: &mut TextBuffer, slope: i8) -> Result<(), OutOfMemory>
     ensures grown { OnOk result (text.new ≡ text.old ++ slope_text slope) }
 {
     let steps = slope.unsigned_abs();
@@ -39,7 +39,7 @@ fn constant(mark: Mark) -> i32
 }
 
 /// A text line of a number.
-pub fn put_mark(text: &mut Text, page: u32, number: usize, mark: Mark) -> Result<(), OutOfMemory>
+pub fn put_mark(text: &mut TextBuffer, page: u32, number: usize, mark: Mark) -> Result<(), OutOfMemory>
     ensures grown { OnOk result (text.new ≡ text.old ++ mark_line page number mark) }
 {
     put_box_front(

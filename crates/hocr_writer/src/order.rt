@@ -1,16 +1,16 @@
 //! How the text lines of a page are ordered: in words, and as a line of the document.
-ghost use Rattle.std.specs.Prelude.{◌≡◌, ◌++◌, ◌∷◌, [], codes, decimal, OnOk};
-ghost use Rattle.hocr_writer.specs.Pieces.{joined, numbered};
-ghost use Rattle.hocr_writer.specs.Document.{cycle_text, order_text, order_line};
+ghost use Rattle.std.specs.Prelude.{◌≡◌, ◌++◌, OnOk};
+ghost use Rattle.hocr_writer.specs.Pieces.{joined_pieces, numbered_pieces};
+ghost use Rattle.hocr_writer.specs.Document.{cycle_number, cycle_text, order_text, order_line};
 
 use crate::layout::Layout;
-use crate::text::Text;
+use crate::text::TextBuffer;
 use layout_geom::{Numbers, Order};
-use std::alloc::AllocError as OutOfMemory;
+use layout_limits::OutOfMemory;
 
 // The numbers of a cycle, each behind a space.
-fn put_numbers(text: &mut Text, numbers: &[u32]) -> Result<(), OutOfMemory>
-    ensures grown { OnOk result (text.new ≡ text.old ++ joined (numbered (λ place line. joined (codes " " ∷ decimal line ∷ [])) 0 numbers.now)) }
+fn put_numbers(text: &mut TextBuffer, numbers: &[u32]) -> Result<(), OutOfMemory>
+    ensures grown { OnOk result (text.new ≡ text.old ++ joined_pieces (numbered_pieces cycle_number 0 numbers.now)) }
 {
     for number in numbers {
         text.push(b" ")?;
@@ -20,7 +20,7 @@ fn put_numbers(text: &mut Text, numbers: &[u32]) -> Result<(), OutOfMemory>
 }
 
 // A cycle of lines.
-fn put_cycle(text: &mut Text, cycle: &Numbers) -> Result<(), OutOfMemory>
+fn put_cycle(text: &mut TextBuffer, cycle: &Numbers) -> Result<(), OutOfMemory>
     ensures grown { OnOk result (text.new ≡ text.old ++ cycle_text cycle.now) }
 {
     text.push(b"cycle")?;
@@ -29,7 +29,8 @@ fn put_cycle(text: &mut Text, cycle: &Numbers) -> Result<(), OutOfMemory>
 }
 
 /// Whether there is an order of the lines, or else the cycle that forbids it.
-pub fn put_order(text: &mut Text, order: &Order) -> Result<(), OutOfMemory>
+#[tactic(auto, using(crate::proofs::Joined::growing), unfolding(crate::specs::Document::order_text))]
+pub fn put_order(text: &mut TextBuffer, order: &Order) -> Result<(), OutOfMemory>
     ensures grown { OnOk result (text.new ≡ text.old ++ order_text order.now) }
 {
     match order {
@@ -39,7 +40,8 @@ pub fn put_order(text: &mut Text, order: &Order) -> Result<(), OutOfMemory>
 }
 
 /// How the text lines of the page are ordered, behind the page's number.
-pub fn put_order_line(text: &mut Text, layout: &Layout) -> Result<(), OutOfMemory>
+#[tactic(auto, using(crate::proofs::Joined::growing), unfolding(crate::specs::Document::order_line))]
+pub fn put_order_line(text: &mut TextBuffer, layout: &Layout) -> Result<(), OutOfMemory>
     ensures grown { OnOk result (text.new ≡ text.old ++ order_line layout.now) }
 {
     text.push(b"<meta name='layout-order' content='")?;

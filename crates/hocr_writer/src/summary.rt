@@ -1,16 +1,18 @@
 //! The summary of a layout: its counts.
 ghost use Rattle.std.specs.Prelude.{◌≡◌, ◌++◌, ◌∷◌, [], codes, OnOk, IfOk};
-ghost use Rattle.hocr_writer.specs.Pieces.{joined};
+ghost use Rattle.hocr_writer.specs.Pieces.{joined_pieces};
 ghost use Rattle.hocr_writer.specs.Summary.{size_line, found_order_line, summary_of};
 
 use crate::layout::Layout;
 use crate::order::put_order;
-use crate::text::Text;
+use crate::text::TextBuffer;
 use itoa::Integer;
-use std::alloc::{AllocError as OutOfMemory, Global};
+use layout_limits::OutOfMemory;
+use std::alloc::Global;
 
 // The size of the page.
-fn put_size_line(text: &mut Text, layout: &Layout) -> Result<(), OutOfMemory>
+#[tactic(auto, using(crate::proofs::Joined::growing), unfolding(crate::specs::Summary::size_line))]
+fn put_size_line(text: &mut TextBuffer, layout: &Layout) -> Result<(), OutOfMemory>
     ensures grown { OnOk result (text.new ≡ text.old ++ size_line layout.now) }
 {
     text.push(b"page ")?;
@@ -22,8 +24,8 @@ fn put_size_line(text: &mut Text, layout: &Layout) -> Result<(), OutOfMemory>
 }
 
 // A count, behind what is counted.
-fn put_count_line<I: Integer>(text: &mut Text, counted: &[u8], count: I) -> Result<(), OutOfMemory>
-    ensures grown { OnOk result (text.new ≡ text.old ++ joined (counted.now ∷ I.text count ∷ codes "\n" ∷ [])) }
+fn put_count_line<I: Integer>(text: &mut TextBuffer, counted: &[u8], count: I) -> Result<(), OutOfMemory>
+    ensures grown { OnOk result (text.new ≡ text.old ++ joined_pieces (counted.now ∷ I.text count ∷ codes "\n" ∷ [])) }
 {
     text.push(counted)?;
     text.push_number(count)?;
@@ -32,12 +34,30 @@ fn put_count_line<I: Integer>(text: &mut Text, counted: &[u8], count: I) -> Resu
 }
 
 // How the text lines are ordered.
-fn put_found_order_line(text: &mut Text, layout: &Layout) -> Result<(), OutOfMemory>
+#[tactic(auto, using(crate::proofs::Joined::growing), unfolding(crate::specs::Summary::found_order_line))]
+fn put_found_order_line(text: &mut TextBuffer, layout: &Layout) -> Result<(), OutOfMemory>
     ensures grown { OnOk result (text.new ≡ text.old ++ found_order_line layout.now) }
 {
     text.push(b"order ")?;
     put_order(text, &layout.order)?;
     text.push(b"\n")?;
+    Ok(())
+}
+
+// The whole summary.
+#[tactic(auto, using(crate::proofs::Joined::growing), unfolding(crate::specs::Summary::summary_of))]
+fn put_summary(text: &mut TextBuffer, layout: &Layout) -> Result<(), OutOfMemory>
+    ensures grown { OnOk result (text.new ≡ text.old ++ summary_of layout.now) }
+{
+    put_size_line(text, layout)?;
+    put_count_line(text, b"black ", layout.black)?;
+    put_count_line(text, b"components ", layout.kept)?;
+    put_count_line(text, b"median ", layout.median)?;
+    put_count_line(text, b"rectangles ", layout.whites.len())?;
+    put_count_line(text, b"gutters ", layout.gutters.len())?;
+    put_count_line(text, b"lines ", layout.lines.len())?;
+    put_count_line(text, b"areas ", layout.areas.len())?;
+    put_found_order_line(text, layout)?;
     Ok(())
 }
 
@@ -54,15 +74,7 @@ fn put_found_order_line(text: &mut Text, layout: &Layout) -> Result<(), OutOfMem
 pub fn summary_text(alloc: Global, layout: &Layout) -> Result<Vec<u8>, OutOfMemory>
     ensures text { IfOk result (λ text. text.items ≡ summary_of layout.now) }
 {
-    let mut text = Text::new(alloc);
-    put_size_line(&mut text, layout)?;
-    put_count_line(&mut text, b"black ", layout.black)?;
-    put_count_line(&mut text, b"components ", layout.kept)?;
-    put_count_line(&mut text, b"median ", layout.median)?;
-    put_count_line(&mut text, b"rectangles ", layout.whites.len())?;
-    put_count_line(&mut text, b"gutters ", layout.gutters.len())?;
-    put_count_line(&mut text, b"lines ", layout.lines.len())?;
-    put_count_line(&mut text, b"areas ", layout.areas.len())?;
-    put_found_order_line(&mut text, layout)?;
+    let mut text = TextBuffer::new(alloc);
+    put_summary(&mut text, layout)?;
     Ok(text.into_bytes())
 }

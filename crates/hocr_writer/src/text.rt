@@ -2,16 +2,17 @@
 ghost use Rattle.std.specs.Prelude.{◌≡◌, ◌++◌, [], OnOk, OnErr};
 
 use itoa::{Buffer, Integer};
-use std::alloc::{AllocError as OutOfMemory, Global};
+use layout_limits::OutOfMemory;
+use std::alloc::Global;
 use std::marker::Model;
 
 /// Bytes that grow at their end. Contracts see the list of the bytes.
 #[derive(Drop)]
-pub struct Text {
+pub struct TextBuffer {
     bytes: Vec<u8>,
 }
 
-impl Model for Text {
+impl Model for TextBuffer {
     ghost use Rattle.std.specs.Prelude.{List, ℕ};
 
     ghost Value = { List ℕ };
@@ -19,12 +20,12 @@ impl Model for Text {
     ghost view = { λ text. text.bytes.items };
 }
 
-impl Text {
+impl TextBuffer {
     /// The empty text, which takes no memory.
-    pub fn new(alloc: Global) -> Text
+    pub fn new(alloc: Global) -> TextBuffer
         ensures empty { result ≡ [] }
     {
-        Text {
+        TextBuffer {
             bytes: Vec::new(alloc),
         }
     }

@@ -1,6 +1,6 @@
 //! Which layouts can be written.
 ghost use Rattle.std.specs.Prelude.{◌≡◌, ◌<◌, ℕ, All, length, slice_index, IsTrue, ◌↔◌};
-ghost use Rattle.hocr_writer.specs.Listing.{NamesLines, SplitListing, IsMark, IsWhole, HasEachOnce};
+ghost use Rattle.hocr_writer.specs.Listing.{AreDistinct, NamesLines, SplitListing, IsMark, IsWholeLayout, HasEachOnce};
 
 use crate::layout::{Layout, Mark};
 use layout_geom::{Area, Order};
@@ -13,18 +13,18 @@ fn are_below(numbers: &[u32], count: usize) -> bool
 }
 
 /// Whether a number is none of others.
-fn is_apart(number: u32, others: &[u32]) -> bool
+fn is_none_of(number: u32, others: &[u32]) -> bool
     ensures { IsTrue result ↔ All (λ other. other ≡ number → ⊥) others.now }
 {
     others.iter().all(|other| *other != number)
 }
 
 /// Whether no two numbers are equal.
-fn are_apart(numbers: &[u32]) -> bool
-    ensures { IsTrue result ↔ ((i j : ℕ) → i < j → j < length numbers.now → slice_index numbers.now i ≡ slice_index numbers.now j → ⊥) }
+fn are_distinct(numbers: &[u32]) -> bool
+    ensures { IsTrue result ↔ AreDistinct numbers.now }
 {
     for (place, number) in numbers.iter().enumerate() {
-        if !is_apart(*number, &numbers[place + 1..]) {
+        if !is_none_of(*number, &numbers[place + 1..]) {
             return false;
         }
     }
@@ -38,7 +38,7 @@ fn names_lines(order: &Order, count: usize) -> bool
     match order {
         Order::Topological(numbers) => {
             let numbers = numbers.as_slice();
-            numbers.len() == count && are_below(numbers, count) && are_apart(numbers)
+            numbers.len() == count && are_below(numbers, count) && are_distinct(numbers)
         }
         Order::Cycle(numbers) => are_below(numbers.as_slice(), count),
     }
@@ -72,7 +72,7 @@ impl Layout {
     ///
     /// Time grows with the square of the number of lines. It takes no memory.
     pub fn is_whole(&self) -> bool
-        ensures { IsTrue result ↔ IsWhole self.now }
+        ensures { IsTrue result ↔ IsWholeLayout self.now }
     {
         let count = self.lines.len();
         names_lines(&self.order, count)

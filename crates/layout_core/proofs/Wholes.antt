@@ -16,7 +16,7 @@ use Rattle.layout_geom.specs.declared.order.Order.TheVariants.{Topological, Cycl
 use Rattle.reading_order.specs.Answers.{IsReadingOrder}
 use Rattle.reading_order.specs.Areas.{AreAreasFrom}
 use Rattle.hocr_writer.specs.declared.layout.Layout.{Layout}
-use Rattle.hocr_writer.specs.Listing.{listing, HasEachOnce, NamesLines, SplitListing, IsWhole}
+use Rattle.hocr_writer.specs.Listing.{listing, HasEachOnce, NamesLines, SplitListing, IsWholeLayout}
 use Rattle.command_words.specs.declared.plan.Plan.{Plan}
 use Rattle.layout_core.specs.Numbering.{box_of}
 use Rattle.layout_core.specs.Layouts.{IsLayout}
@@ -58,7 +58,7 @@ split : (lines : List Rect) (listed : List ℕ) (reach from : ℕ) (areas : List
 split lines listed reach from [] are = are
 split lines listed reach from (area ∷ areas) are = (are.0.starts, split lines listed reach (from + area.count) areas are.1)
 
-pub whole_layout : (plan : Plan) (page : Page) (layout : Layout) → IsLayout plan page layout → IsWhole layout
+pub whole_layout : (plan : Plan) (page : Page) (layout : Layout) → IsLayout plan page layout → IsWholeLayout layout
 whole_layout plan page layout is =
     let high : page.height ≤ 8192 = omega (arith, is.sides.bottom, is.whole.sides.bottom) in
     let boxes = map box_of layout.lines in

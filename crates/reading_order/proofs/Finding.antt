@@ -2,9 +2,9 @@
 use Rattle.std.proofs.Common.{◌≡◌, ℕ, ◌<◌, List, length, get_or, map, arith, sym, subst}
 use Rattle.std.proofs.lemmas.List.{get_or-map}
 use Rattle.layout_geom.specs.declared.rect.Rect.{Rect}
-use Rattle.reading_order.specs.Rules.{middle_of, Precedes, IsBefore}
+use Rattle.reading_order.specs.Rules.{twice_middle_of, Precedes, IsBefore}
 use Rattle.reading_order.specs.Reach.{IsReach, AreReaches}
-use Rattle.reading_order.specs.Sweeps.{height_of, IsReachFor, AreRowReaches, PrecedesBy}
+use Rattle.reading_order.specs.Sweeps.{level_from_below, IsReachFor, AreRowReaches, PrecedesBy}
 use Rattle.reading_order.proofs.Parting.{precedes_by}
 
 module _ (lines : List Rect) (later : ℕ) (later_low : later < length lines) (edge : ℕ) (edge_is : (d : Rect) → edge ≡ (get_or lines later d).x0) where
@@ -23,15 +23,15 @@ module _ (lines : List Rect) (later : ℕ) (later_low : later < length lines) (e
       let R : ℕ → Type 0 = λ z. IsReach lines levels (get_or levels later 0) edge z r in
       subst P at_row (subst Q (edge_is d) (subst R at_b (are.reached b low (omega (arith, at_row, at_b, less)))))
 
-  pub row_reaches : (old between new : List ℕ) → AreReaches lines (map middle_of lines) (get_or (map middle_of lines) later 0) edge old between → AreReaches lines (map height_of lines) (get_or (map height_of lines) later 0) edge between new → AreRowReaches lines later new
+  pub row_reaches : (old between new : List ℕ) → AreReaches lines (map twice_middle_of lines) (get_or (map twice_middle_of lines) later 0) edge old between → AreReaches lines (map level_from_below lines) (get_or (map level_from_below lines) later 0) edge between new → AreRowReaches lines later new
   row_reaches old between new down up b d low = (
     λ less.
-        let at_row : get_or (map height_of lines) later 0 ≡ height_of (get_or lines later d) = get_or-map height_of lines later d 0 later_low in
-        let at_b : get_or (map height_of lines) b 0 ≡ height_of (get_or lines b d) = get_or-map height_of lines b d 0 low in
+        let at_row : get_or (map level_from_below lines) later 0 ≡ level_from_below (get_or lines later d) = get_or-map level_from_below lines later d 0 later_low in
+        let at_b : get_or (map level_from_below lines) b 0 ≡ level_from_below (get_or lines b d) = get_or-map level_from_below lines b d 0 low in
         let kept : get_or new b 0 ≡ get_or between b 0 = up.others b (omega (arith, at_row, at_b, less)) in
-        let P : ℕ → Type 0 = λ z. IsReachFor lines middle_of (get_or lines later d) (get_or lines b d) z in
-        subst P (sym kept) (one_way middle_of old between down b d low less),
-    λ less. one_way height_of between new up b d low less,
+        let P : ℕ → Type 0 = λ z. IsReachFor lines twice_middle_of (get_or lines later d) (get_or lines b d) z in
+        subst P (sym kept) (one_way twice_middle_of old between down b d low less),
+    λ less. one_way level_from_below between new up b d low less,
   )
 
 -- The answer for two lines that were read.
@@ -40,8 +40,8 @@ pub before_by : (lines : List Rect) (earlier later : ℕ) (first second : Rect) 
 before_by lines earlier later first second reaches earlier_low later_low first_is second_is are =
     let reach = get_or reaches earlier 0 in
     let at = are earlier first earlier_low in
-    let P : Rect → Type 0 = λ r. (middle_of r < middle_of (get_or lines earlier first) → IsReachFor lines middle_of r (get_or lines earlier first) reach) × (height_of r < height_of (get_or lines earlier first) → IsReachFor lines height_of r (get_or lines earlier first) reach) in
-    let Q : Rect → Type 0 = λ r. (middle_of second < middle_of r → IsReachFor lines middle_of second r reach) × (height_of second < height_of r → IsReachFor lines height_of second r reach) in
+    let P : Rect → Type 0 = λ r. (twice_middle_of r < twice_middle_of (get_or lines earlier first) → IsReachFor lines twice_middle_of r (get_or lines earlier first) reach) × (level_from_below r < level_from_below (get_or lines earlier first) → IsReachFor lines level_from_below r (get_or lines earlier first) reach) in
+    let Q : Rect → Type 0 = λ r. (twice_middle_of second < twice_middle_of r → IsReachFor lines twice_middle_of second r reach) × (level_from_below second < level_from_below r → IsReachFor lines level_from_below second r reach) in
     let both = subst Q (sym (first_is first)) (subst P (sym (second_is first)) at) in
     let same = precedes_by lines first second reach both.0 both.1 in (
       λ h d.

@@ -9,7 +9,7 @@ use Rattle.std.proofs.lemmas.List.Sorted.{IsPermutation-more, IsPermutation-refl
 use Rattle.std.proofs.lemmas.Map.Keys.{apart_from_distinct}
 use Rattle.reading_order.specs.Lexical.{IsLexicallyAtMost}
 use Rattle.reading_order.specs.Orders.{IsTopologicalOrder, IsLeastTopologicalOrder}
-use Rattle.reading_order.specs.Fronts.{IsFront, IsKept}
+use Rattle.reading_order.specs.Fronts.{IsFront, IsTakenOrBlocked}
 use Rattle.reading_order.proofs.Lexical.{IsLexicallyAtMost-push}
 use Rattle.reading_order.proofs.Members.{IsIn, IsOut, place_of, in_at, in_or_out, in_whole, below_whole, distinct_whole, length_whole}
 
@@ -18,7 +18,7 @@ pub record IsFree (before : ℕ → ℕ → Type 0) (limit : ℕ) (taken : List 
   pub low : x < limit
   pub out : list_any (eqb x) taken ≡ false
   pub settled : (a : ℕ) → a < limit → before a x → list_any (eqb a) taken ≡ true
-  pub least : (y : ℕ) → y < x → IsKept before limit taken y
+  pub least : (y : ℕ) → y < x → IsTakenOrBlocked before limit taken y
 
 module _ (before : ℕ → ℕ → Type 0) (limit : ℕ) where
   -- what comes next in an order that begins with the numbers taken was not taken

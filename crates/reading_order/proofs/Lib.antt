@@ -1,3 +1,4 @@
+-- The lemmas on orders, cycles, reaches and areas.
 pub mod Lexical
 pub mod Members
 pub mod Fronts

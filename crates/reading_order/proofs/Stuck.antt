@@ -7,7 +7,7 @@ use Rattle.std.proofs.lemmas.List.Elements.{All-head, All-cons, All-nil, All-tak
 use Rattle.std.proofs.lemmas.Map.Keys.{apart_from_distinct, IsDistinct-from_apart, IsDistinct-cons}
 use Rattle.std.proofs.lemmas.Map.Steps.{length-le_from_distinct_below}
 use Rattle.reading_order.specs.Cycles.{Leads, IsCycle}
-use Rattle.reading_order.specs.Fronts.{IsFront, IsKept, IsGreedy}
+use Rattle.reading_order.specs.Fronts.{IsFront, IsTakenOrBlocked, IsGreedy}
 use Rattle.reading_order.proofs.Members.{IsIn, IsOut, place_of, in_at, in_or_out, below_whole, distinct_whole, length_whole}
 
 out_of_all : (u : ℕ) (xs : List ℕ) → IsOut u xs → AllByRecursion (λ y. eqb u y ≡ false) xs
@@ -113,7 +113,7 @@ module _ (before : ℕ → ℕ → Type 0) (limit : ℕ) where
   pub some_cycle : (taken : List ℕ) → IsGreedy before limit taken → length taken < limit → (cycle : List ℕ) × IsCycle before limit cycle
   some_cycle taken greedy few = left_over taken greedy.left greedy.front greedy.stuck few
     where
-      left_over : (taken left : List ℕ) → IsFront before limit taken left → ((x : ℕ) → x < limit → IsKept before limit taken x) → length taken < limit → (cycle : List ℕ) × IsCycle before limit cycle
+      left_over : (taken left : List ℕ) → IsFront before limit taken left → ((x : ℕ) → x < limit → IsTakenOrBlocked before limit taken x) → length taken < limit → (cycle : List ℕ) × IsCycle before limit cycle
       left_over taken [] front stuck few =
           absurd (omega (arith, few, length_whole limit (taken ++ []) front.whole, length-append taken []))
       left_over taken (z ∷ zs) front stuck few =

@@ -6,13 +6,13 @@ use Rattle.std.proofs.lemmas.List.{get_or-set_same, get_or-set_other, get_or-rep
 use Rattle.std.proofs.lemmas.List.Folds.{list_any-append}
 use Rattle.reading_order.specs.declared.table.Table.{Table}
 use Rattle.reading_order.specs.Tables.{Marks}
-use Rattle.reading_order.specs.Looking.{AreLooked, AreFlags, IsNotFree, IsLeastFree}
-use Rattle.reading_order.specs.Fronts.{IsFront, IsKept, IsGreedy}
+use Rattle.reading_order.specs.Looking.{AreLooked, AreFlags, IsNotFree, IsLeastFreeNumber}
+use Rattle.reading_order.specs.Fronts.{IsFront, IsTakenOrBlocked, IsGreedy}
 use Rattle.reading_order.proofs.Members.{in_whole}
 use Rattle.reading_order.proofs.Fronts.{nothing_left, IsFree}
 
 module _ (before : Table) where
-  pub kept_from : (taken : List Bool) (order : List ℕ) → AreFlags before.side taken order → (x : ℕ) → x < before.side → IsNotFree before taken x → IsKept (Marks before) before.side order x
+  pub kept_from : (taken : List Bool) (order : List ℕ) → AreFlags before.side taken order → (x : ℕ) → x < before.side → IsNotFree before taken x → IsTakenOrBlocked (Marks before) before.side order x
   kept_from taken order flags x low h =
       ⊎_elim
       (λ yes. inl (sym (flags x low) ∙ yes))
@@ -21,7 +21,7 @@ module _ (before : Table) where
       inr (record { earlier = held.earlier; low = held.low; is_before = held.marks; out = sym (flags held.earlier held.low) ∙ held.out }))
       (cases_Bool (get_or taken x false))
 
-  pub free_from : (taken : List Bool) (order : List ℕ) → AreFlags before.side taken order → (x : ℕ) → IsLeastFree before taken x → IsFree (Marks before) before.side order x
+  pub free_from : (taken : List Bool) (order : List ℕ) → AreFlags before.side taken order → (x : ℕ) → IsLeastFreeNumber before taken x → IsFree (Marks before) before.side order x
   free_from taken order flags x is = record {
     low = is.low;
     out = sym (flags x is.low) ∙ is.out;

@@ -3,7 +3,7 @@ use Rattle.std.proofs.Common.{◌≡◌, ◌≢◌, ℕ, ◌+◌, ◌<◌, ◌�
 use Rattle.std.proofs.lemmas.Bool.{cases_lt, cases_eq, lt-ltb, le-ltb, cond-true, cond-false}
 use Rattle.std.proofs.lemmas.List.{get_or-set_same, get_or-set_other, length-set}
 use Rattle.layout_geom.specs.declared.rect.Rect.{Rect}
-use Rattle.reading_order.specs.Reach.{AreInOrder, IsBetween, StartsAt, IsReach, AreReaches}
+use Rattle.reading_order.specs.Reach.{AreInOrder, IsLineBetween, StartsAt, IsReach, AreReaches}
 
 module _ (lines : List Rect) (levels order : List ℕ) (from edge : ℕ) where
   -- what is known when the first lines of the order were met
@@ -13,7 +13,7 @@ module _ (lines : List Rect) (levels order : List ℕ) (from edge : ℕ) where
     pub ahead : (k : ℕ) → met ≤ k → k < length order → from < get_or levels (get_or order k 0) 0 → level ≤ get_or levels (get_or order k 0) 0
     pub lesser : IsReach lines levels from edge level before
     pub bound : (k : ℕ) → k < met → from < get_or levels (get_or order k 0) 0 → ((d : Rect) → edge < (get_or lines (get_or order k 0) d).x1) → (d : Rect) → within ≤ (get_or lines (get_or order k 0) d).x0
-    pub some : (within ≡ 8192) ⊎ ((line : ℕ) × IsBetween lines levels from edge (level + 1) line × StartsAt lines line within)
+    pub some : (within ≡ 8192) ⊎ ((line : ℕ) × IsLineBetween lines levels from edge (level + 1) line × StartsAt lines line within)
     pub reached : (k : ℕ) → k < met → from < get_or levels (get_or order k 0) 0 → IsReach lines levels from edge (get_or levels (get_or order k 0) 0) (get_or reaches (get_or order k 0) 0)
     pub others : (b : ℕ) → get_or levels b 0 ≤ from → get_or reaches b 0 ≡ get_or old b 0
 
@@ -135,14 +135,14 @@ module _ (lines : List Rect) (levels order : List ℕ) (from edge : ℕ) where
             (λ more. omega (arith, wider_is, cond-false (ltb edge line.x1) (min within line.x0) within (le-ltb edge line.x1 more)))
             (cases_lt edge line.x1)
 
-        before_some : level ≤ get_or levels (get_or order met 0) 0 → wider ≡ within → (wider ≡ 8192) ⊎ ((c : ℕ) × IsBetween lines levels from edge (get_or levels (get_or order met 0) 0 + 1) c × StartsAt lines c wider)
+        before_some : level ≤ get_or levels (get_or order met 0) 0 → wider ≡ within → (wider ≡ 8192) ⊎ ((c : ℕ) × IsLineBetween lines levels from edge (get_or levels (get_or order met 0) 0 + 1) c × StartsAt lines c wider)
         before_some risen same =
             ⊎_elim
             (λ none. inl (same ∙ none))
             (λ r. inr (r.0, record { low = r.1.low; behind = r.1.behind; ahead = omega (arith, r.1.ahead, risen); right = r.1.right }, λ d. r.2 d ∙ sym same))
             is.some
 
-        widest : level ≤ get_or levels (get_or order met 0) 0 → get_or order met 0 < length lines → (wider ≡ 8192) ⊎ ((c : ℕ) × IsBetween lines levels from edge (get_or levels (get_or order met 0) 0 + 1) c × StartsAt lines c wider)
+        widest : level ≤ get_or levels (get_or order met 0) 0 → get_or order met 0 < length lines → (wider ≡ 8192) ⊎ ((c : ℕ) × IsLineBetween lines levels from edge (get_or levels (get_or order met 0) 0 + 1) c × StartsAt lines c wider)
         widest risen b_low =
             ⊎_elim
             (λ less.

@@ -10,7 +10,9 @@ use Rattle.reading_order.specs.Cycles.{IsLeastCycle}
 -- the least order that obeys both rules, or the least cycle where there is none
 abbrev pub IsReadingOrder : List Rect → Order → Type 0
 IsReadingOrder lines (Topological order) = IsLeastTopologicalOrder (IsBefore lines) (length lines) order
-IsReadingOrder lines (Cycle cycle) = IsLeastCycle (IsBefore lines) (length lines) cycle × ((order : List ℕ) → IsTopologicalOrder (IsBefore lines) (length lines) order → ⊥)
+IsReadingOrder lines (Cycle cycle) =
+    IsLeastCycle (IsBefore lines) (length lines) cycle
+    × ((order : List ℕ) → IsTopologicalOrder (IsBefore lines) (length lines) order → ⊥)
 
 -- lines have one of these at most
 abbrev pub OrderIsUnique : Type 0

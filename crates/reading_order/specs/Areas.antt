@@ -3,6 +3,7 @@ use Rattle.std.specs.Prelude.{◌≡◌, ℕ, ◌+◌, ◌-◌, ◌*◌, ◌<◌
 use Rattle.layout_geom.specs.declared.rect.Rect.{Rect}
 use Rattle.layout_geom.specs.declared.area.Area.{Area}
 use Rattle.layout_geom.specs.Rectangles.{Encloses, IsLeastRect}
+use Rattle.reading_order.specs.declared.areas.TheConstants.{MOST_GAP}
 use Rattle.reading_order.specs.Rules.{OverlapsInX, IsAbove}
 
 -- The next line goes on below a line, at most so many rows below its end.
@@ -17,7 +18,8 @@ line_at lines listing position d = slice_index_or lines (slice_index listing pos
 
 -- The line behind a position of a listing goes on below the one there.
 abbrev pub GoesOnAt : List Rect → List ℕ → ℕ → ℕ → Type 0
-GoesOnAt lines listing reach position = (d : Rect) → GoesOn reach (line_at lines listing position d) (line_at lines listing (position + 1) d)
+GoesOnAt lines listing reach position =
+    (d : Rect) → GoesOn reach (line_at lines listing position d) (line_at lines listing (position + 1) d)
 
 -- A rectangle encloses the lines at the positions from the first up to the last, which is excluded.
 abbrev pub EnclosesLines : List Rect → List ℕ → ℕ → ℕ → Rect → Type 0
@@ -39,13 +41,16 @@ pub record IsArea (lines : List Rect) (listing : List ℕ) (reach from : ℕ) (a
 -- The areas that a listing falls into from a position on.
 abbrev pub AreAreasFrom : List Rect → List ℕ → ℕ → ℕ → List Area → Type 0
 AreAreasFrom lines listing reach from [] = from ≡ length listing
-AreAreasFrom lines listing reach from (area ∷ areas) = IsArea lines listing reach from area × AreAreasFrom lines listing reach (from + area.count) areas
+AreAreasFrom lines listing reach from (area ∷ areas) =
+    IsArea lines listing reach from area × AreAreasFrom lines listing reach (from + area.count) areas
 
 -- The areas of lines in the order of a listing, where the text has a median height: a line goes on below another up to
--- twice that height below its end.
+-- `MOST_GAP` times that height below its end.
 abbrev pub AreAreasOf : List Rect → List ℕ → ℕ → List Area → Type 0
-AreAreasOf lines listing median areas = AreAreasFrom lines listing (2 * median) 0 areas
+AreAreasOf lines listing median areas = AreAreasFrom lines listing (MOST_GAP * median) 0 areas
 
 -- A listing of lines falls into one list of areas at most.
 abbrev pub AreasAreUnique : Type 0
-AreasAreUnique = (lines : List Rect) (listing : List ℕ) (median : ℕ) (xs ys : List Area) → AreAreasOf lines listing median xs → AreAreasOf lines listing median ys → xs ≡ ys
+AreasAreUnique =
+    (lines : List Rect) (listing : List ℕ) (median : ℕ) (xs ys : List Area)
+    → AreAreasOf lines listing median xs → AreAreasOf lines listing median ys → xs ≡ ys

@@ -27,7 +27,8 @@ pub record IsLeastCycle (before : ℕ → ℕ → Type 0) (limit : ℕ) (cycle :
   pub is_cycle : IsCycle before limit cycle
   pub start : (other : List ℕ) → IsCycle before limit other → All (λ x. slice_index cycle 0 ≤ x) other
   pub shortest : (other : List ℕ) → IsCycle before limit other → StartAlike cycle other → length cycle ≤ length other
-  pub least : (other : List ℕ) → IsCycle before limit other → StartAlike cycle other → length cycle ≡ length other → IsLexicallyAtMost cycle other
+  pub least : (other : List ℕ) → IsCycle before limit other → StartAlike cycle other → length cycle ≡ length other
+      → IsLexicallyAtMost cycle other
 
 -- No cycle starts at a number.
 abbrev pub StartsNoCycle : (ℕ → ℕ → Type 0) → ℕ → ℕ → Type 0
@@ -35,4 +36,5 @@ StartsNoCycle before limit x = (cycle : List ℕ) → IsCycle before limit cycle
 
 -- No cycle starts at a number that is flagged.
 abbrev pub AreOnNone : (ℕ → ℕ → Type 0) → ℕ → List Bool → Type 0
-AreOnNone before limit flags = (x : ℕ) → x < limit → slice_index_or flags x false ≡ true → StartsNoCycle before limit x
+AreOnNone before limit flags =
+    (x : ℕ) → x < limit → slice_index_or flags x false ≡ true → StartsNoCycle before limit x

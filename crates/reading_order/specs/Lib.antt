@@ -1,3 +1,4 @@
+-- Reading order, its two rules, and areas.
 pub mod Rules
 pub mod Lexical
 pub mod Orders

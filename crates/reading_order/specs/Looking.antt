@@ -26,7 +26,7 @@ abbrev pub IsNotFree : Table → List Bool → ℕ → Type 0
 IsNotFree before taken x = slice_index_or taken x false ≡ false → IsHeld before taken x
 
 -- the least number that is not taken and not held
-pub record IsLeastFree (before : Table) (taken : List Bool) (x : ℕ) : Type 0 where
+pub record IsLeastFreeNumber (before : Table) (taken : List Bool) (x : ℕ) : Type 0 where
   pub low : x < before.side
   pub out : slice_index_or taken x false ≡ false
   pub clear : IsClearUpTo before taken x before.side

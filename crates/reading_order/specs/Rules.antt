@@ -3,11 +3,11 @@ use Rattle.std.specs.Prelude.{ℕ, ◌+◌, ◌<◌, ◌≤◌, List, All, slice
 use Rattle.layout_geom.specs.declared.rect.Rect.{Rect}
 
 -- Twice the middle row of a line. Twice, so that it is a whole number.
-abbrev pub middle_of : Rect → ℕ
-middle_of r = r.y0 + r.y1
+abbrev pub twice_middle_of : Rect → ℕ
+twice_middle_of r = r.y0 + r.y1
 
 abbrev pub IsAbove : Rect → Rect → Type 0
-IsAbove r s = middle_of r < middle_of s
+IsAbove r s = twice_middle_of r < twice_middle_of s
 
 -- The x-ranges of two lines overlap: they have a column of pixels in common.
 pub record OverlapsInX (r s : Rect) : Type 0 where

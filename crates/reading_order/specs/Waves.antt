@@ -18,7 +18,8 @@ pub record IsUnreached (before : Table) (wave : List ℕ) (new : List ℕ) (x : 
 -- the numbers below a place that had no step have it where they are before one of the wave, and all else stays
 pub record IsWave (before : Table) (wave : List ℕ) (step : ℕ) (old new next : List ℕ) (place : ℕ) : Type 0 where
   pub count : length new ≡ length old
-  pub given : (x : ℕ) → x < place → slice_index old x ≡ before.side → IsReached before wave step new next x ⊎ IsUnreached before wave new x
+  pub given : (x : ℕ) → x < place → slice_index old x ≡ before.side
+      → IsReached before wave step new next x ⊎ IsUnreached before wave new x
   pub kept : (x : ℕ) → x < place → slice_index old x ≢ before.side → slice_index new x ≡ slice_index old x
   pub later : (x : ℕ) → place ≤ x → slice_index new x ≡ slice_index old x
   pub low : All (λ x. x < before.side) next

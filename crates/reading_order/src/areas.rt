@@ -6,22 +6,26 @@ ghost use Rattle.layout_geom.specs.declared.rect.Rect.{Rect};
 ghost use Rattle.layout_geom.specs.Rectangles.{Encloses};
 ghost use Rattle.reading_order.specs.Areas.{GoesOn, line_at, IsArea, AreAreasOf};
 
-use crate::rules::{middle, overlap_in_x};
+use crate::rules::{overlap_in_x, twice_middle};
 use layout_geom::{Area, Areas, Numbers, Rect, Rects};
 use layout_limits::OutOfMemory;
 use std::alloc::Global;
 
+/// How many median heights lie at most between the end of a line and the next line of its area: lines of one text
+/// stand nearer.
+const MOST_GAP: u32 = 2;
+
 /// Whether a line goes on below another.
 fn goes_on(line: &Rect, next: &Rect, median: u16) -> bool
-    ensures { IsTrue result ↔ GoesOn (2 * median) line.now next.now }
+    ensures { IsTrue result ↔ GoesOn (MOST_GAP * median) line.now next.now }
 {
     overlap_in_x(line, next)
-        && middle(line) < middle(next)
-        && next.y0() as u32 <= line.y1() as u32 + 2 * median as u32
+        && twice_middle(line) < twice_middle(next)
+        && next.y0() as u32 <= line.y1() as u32 + MOST_GAP * median as u32
 }
 
 /// The line at a position of a listing.
-fn line_of<'a>(lines: &'a Rects, listing: &Numbers, position: usize) -> &'a Rect
+fn listed_line<'a>(lines: &'a Rects, listing: &Numbers, position: usize) -> &'a Rect
     requires position { position < length listing.now }
     requires low { All (λ k. k < length lines.now) listing.now }
     ensures { (d : Rect) → result.now ≡ line_at lines.now listing.now position d }
@@ -34,13 +38,13 @@ fn area_at(lines: &Rects, listing: &Numbers, median: u16, first: usize) -> Area
     requires first { first < length listing.now }
     requires low { All (λ k. k < length lines.now) listing.now }
     requires contained { (page : Rect) × All (Encloses page) lines.now }
-    ensures { IsArea lines.now listing.now (2 * median) first result }
+    ensures { IsArea lines.now listing.now (MOST_GAP * median) first result }
 {
     let count = listing.len();
-    let mut bbox = *line_of(lines, listing, first);
+    let mut bbox = *listed_line(lines, listing, first);
     for position in first + 1..count {
-        let line = line_of(lines, listing, position - 1);
-        let next = line_of(lines, listing, position);
+        let line = listed_line(lines, listing, position - 1);
+        let next = listed_line(lines, listing, position);
         if !goes_on(line, next, median) {
             return Area {
                 first: first as u32,

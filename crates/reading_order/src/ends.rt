@@ -13,7 +13,8 @@ const ROUNDS: usize = 64;
 fn leads_nowhere(before: &Table, flags: &[bool], number: usize) -> bool
     requires number { number < before.now.side }
     requires count { length flags.now ≡ before.now.side }
-    ensures { result ≡ true → (y : ℕ) → y < before.now.side → Marks before.now number y → slice_index_or flags.now y false ≡ true }
+    ensures { result ≡ true → (y : ℕ) → y < before.now.side → Marks before.now number y
+        → slice_index_or flags.now y false ≡ true }
 {
     for later in 0..before.side() {
         if !flags[later] && before.get(number, later) {

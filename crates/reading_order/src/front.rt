@@ -1,8 +1,8 @@
 //! Takes numbers one by one, each the least one that is behind none that is left: a topological order, as far as it goes.
 ghost use Rattle.std.specs.Prelude.{◌≡◌, ℕ, ◌<◌, ◌≤◌, ◌^◌, List, length, Bool, true, false, IfOk, MatchOption, IfSome, IfNone, MatchBool};
 ghost use Rattle.reading_order.specs.Tables.{Marks};
-ghost use Rattle.reading_order.specs.Fronts.{IsFront, IsKept, IsGreedy};
-ghost use Rattle.reading_order.specs.Looking.{AreLooked, AreFlags, IsClearUpTo, IsHeld, IsNotFree, IsLeastFree};
+ghost use Rattle.reading_order.specs.Fronts.{IsFront, IsTakenOrBlocked, IsGreedy};
+ghost use Rattle.reading_order.specs.Looking.{AreLooked, AreFlags, IsClearUpTo, IsHeld, IsNotFree, IsLeastFreeNumber};
 
 use crate::table::Table;
 use layout_geom::Numbers;
@@ -39,11 +39,11 @@ fn is_free(before: &Table, taken: &[bool], number: usize, looked: &mut usize) ->
 }
 
 /// The least number that is free to be taken.
-fn least_free(before: &Table, taken: &[bool], looked: &mut [usize]) -> Option<usize>
+fn least_free_number(before: &Table, taken: &[bool], looked: &mut [usize]) -> Option<usize>
     requires flags { length taken.now ≡ before.now.side }
     requires looked { AreLooked before.now taken.now looked.old }
     ensures looked { AreLooked before.now taken.now looked.new }
-    ensures least { IfSome result (IsLeastFree before.now taken.now) }
+    ensures least { IfSome result (IsLeastFreeNumber before.now taken.now) }
     ensures none { IfNone result ((x : ℕ) → x < before.now.side → IsNotFree before.now taken.now x) }
 {
     for number in 0..before.side() {
@@ -72,7 +72,7 @@ pub(crate) fn take_free(alloc: Global, before: &Table) -> Result<Front, OutOfMem
     let mut looked = vec![in alloc; 0usize; side]?;
     let mut order = Numbers::new(alloc);
     for count in 0..side {
-        let Some(number) = least_free(before, &taken, &mut looked) else {
+        let Some(number) = least_free_number(before, &taken, &mut looked) else {
             return Ok(Front { order, taken });
         };
         taken[number] = true;

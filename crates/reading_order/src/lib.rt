@@ -18,5 +18,4 @@ mod tests;
 
 pub use areas::areas_of;
 pub use law::order_and_areas_are_unique;
-pub use layout_limits::OutOfMemory;
 pub use order::order_of;

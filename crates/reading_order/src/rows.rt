@@ -1,10 +1,10 @@
 //! The table of all lines, row by row: the row of a line says which lines are read before it.
 ghost use Rattle.std.specs.Prelude.{◌≡◌, ℕ, ◌<◌, ◌≤◌, ◌^◌, length, Bool, false, IfOk, List, ◌↔◌, IsTrue};
 ghost use Rattle.layout_geom.specs.declared.rect.Rect.{Rect};
-ghost use Rattle.reading_order.specs.Rules.{middle_of, IsBefore};
+ghost use Rattle.reading_order.specs.Rules.{twice_middle_of, IsBefore};
 ghost use Rattle.reading_order.specs.Tables.{is_marked, Marks};
 ghost use Rattle.reading_order.specs.Shown.{IsRowShown, IsShown};
-ghost use Rattle.reading_order.specs.Sweeps.{height_of, IsSweep, AreRowReaches};
+ghost use Rattle.reading_order.specs.Sweeps.{level_from_below, IsSweep, AreRowReaches};
 
 use crate::reach::fill_reaches;
 use crate::rules::precedes_by;
@@ -16,8 +16,8 @@ use std::alloc::Global;
 
 /// Finds how far to the left the lines between one line and each other reach.
 fn find_reaches(lines: &[Rect], down: &Sweep, up: &Sweep, later: usize, reaches: &mut [u16])
-    requires down { IsSweep middle_of lines.now down.now }
-    requires up { IsSweep height_of lines.now up.now }
+    requires down { IsSweep twice_middle_of lines.now down.now }
+    requires up { IsSweep level_from_below lines.now up.now }
     requires later { later < length lines.now }
     requires count { length reaches.old ≡ length lines.now }
     ensures count { length reaches.new ≡ length lines.now }

@@ -1,14 +1,14 @@
 //! The two rules of reading order, asked of two lines.
 ghost use Rattle.std.specs.Prelude.{◌≡◌, IsTrue, ◌↔◌};
 ghost use Rattle.layout_geom.specs.declared.rect.Rect.{Rect};
-ghost use Rattle.reading_order.specs.Rules.{middle_of, OverlapsInX};
+ghost use Rattle.reading_order.specs.Rules.{twice_middle_of, OverlapsInX};
 ghost use Rattle.reading_order.specs.Sweeps.{PrecedesBy};
 
 use layout_geom::Rect;
 
 /// Twice the middle row of a line.
-pub(crate) fn middle(line: &Rect) -> u16
-    ensures { result ≡ middle_of line.now }
+pub(crate) fn twice_middle(line: &Rect) -> u16
+    ensures { result ≡ twice_middle_of line.now }
 {
     line.y0() + line.y1()
 }
@@ -24,8 +24,9 @@ pub(crate) fn overlap_in_x(first: &Rect, second: &Rect) -> bool
 pub(crate) fn precedes_by(first: &Rect, second: &Rect, reach: u16) -> bool
     ensures { IsTrue result ↔ PrecedesBy first.now second.now reach }
 {
-    if overlap_in_x(first, second) && middle(first) < middle(second) {
+    if overlap_in_x(first, second) && twice_middle(first) < twice_middle(second) {
         return true;
     }
-    first.x1() <= second.x0() && (middle(first) == middle(second) || first.x1() <= reach)
+    first.x1() <= second.x0()
+        && (twice_middle(first) == twice_middle(second) || first.x1() <= reach)
 }

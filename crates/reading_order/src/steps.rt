@@ -5,7 +5,8 @@ ghost use Rattle.reading_order.specs.Steps.{AreSteps};
 ghost use Rattle.reading_order.specs.Waves.{IsWave, ExtendsWave};
 
 use crate::table::Table;
-use std::alloc::{AllocError as OutOfMemory, Global};
+use layout_limits::OutOfMemory;
+use std::alloc::Global;
 
 /// Gives the step to the numbers before one that have none yet, and adds them to the next wave.
 fn step_back(

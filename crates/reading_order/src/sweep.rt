@@ -1,12 +1,14 @@
+//! The levels of lines from one end of the page to the other, and the lines in the order of their levels.
 ghost use Rattle.std.specs.Prelude.{◌≡◌, ℕ, ◌-◌, ◌<◌, ◌≤◌, length, IfOk, map};
 ghost use Rattle.layout_geom.specs.declared.rect.Rect.{Rect};
-ghost use Rattle.reading_order.specs.Rules.{middle_of};
+ghost use Rattle.reading_order.specs.Rules.{twice_middle_of};
 ghost use Rattle.reading_order.specs.Reach.{AreInOrder};
-ghost use Rattle.reading_order.specs.Sweeps.{height_of, IsSweep};
+ghost use Rattle.reading_order.specs.Sweeps.{level_from_below, IsSweep};
 
-use crate::rules::middle;
+use crate::rules::twice_middle;
 use layout_geom::Rect;
-use std::alloc::{AllocError as OutOfMemory, Global};
+use layout_limits::{MAX_SIDE, OutOfMemory};
+use std::alloc::Global;
 
 /// The number of a line and its level.
 #[derive(Clone, Copy)]
@@ -43,11 +45,11 @@ pub(crate) struct Sweep {
 
 /// From the top of the page to its bottom.
 pub(crate) fn sweep_down(alloc: Global, lines: &[Rect]) -> Result<Sweep, OutOfMemory>
-    ensures { IfOk result (IsSweep middle_of lines.now) }
+    ensures { IfOk result (IsSweep twice_middle_of lines.now) }
 {
     let mut levels = Vec::new(alloc);
     for line in lines {
-        levels.push(middle(line))?;
+        levels.push(twice_middle(line))?;
     }
     let order = numbers_by(alloc, &levels)?;
     Ok(Sweep { levels, order })
@@ -55,11 +57,11 @@ pub(crate) fn sweep_down(alloc: Global, lines: &[Rect]) -> Result<Sweep, OutOfMe
 
 /// From the bottom of the page to its top.
 pub(crate) fn sweep_up(alloc: Global, lines: &[Rect]) -> Result<Sweep, OutOfMemory>
-    ensures { IfOk result (IsSweep height_of lines.now) }
+    ensures { IfOk result (IsSweep level_from_below lines.now) }
 {
     let mut levels = Vec::new(alloc);
     for line in lines {
-        levels.push(16384 - middle(line))?;
+        levels.push(2 * MAX_SIDE - twice_middle(line))?;
     }
     let order = numbers_by(alloc, &levels)?;
     Ok(Sweep { levels, order })

@@ -1,5 +1,6 @@
 //! A table of bits that says which of some numbers are before which.
-use std::alloc::{AllocError as OutOfMemory, Global};
+use layout_limits::OutOfMemory;
+use std::alloc::Global;
 
 /// Which numbers below a limit are before which, a bit each: the row of a number has the bits of those before it.
 #[derive(Drop)]
@@ -51,7 +52,8 @@ impl Table {
         requires later { later < self.old.side }
         ensures side { self.new.side ≡ self.old.side }
         ensures marked { is_marked self.new earlier later ≡ true }
-        ensures others { (a b : ℕ) → a < self.old.side → b < self.old.side → (b ≡ later → a ≡ earlier → ⊥) → is_marked self.new a b ≡ is_marked self.old a b }
+        ensures others { (a b : ℕ) → a < self.old.side → b < self.old.side → (b ≡ later → a ≡ earlier → ⊥)
+            → is_marked self.new a b ≡ is_marked self.old a b }
     {
         let place = later * self.side + earlier;
         self.words[place / 64] |= 1 << (place % 64);

@@ -1,10 +1,5 @@
-use Rattle.hocr_writer.proofs.Joined.{grown_more, grown_last}
+use Rattle.hocr_writer.proofs.Joined.{growing}
 use Rattle.hocr_writer.proofs.areas.put_area_line.Goals as goal
 
 pub returns : goal.returns
-returns c =
-    record {
-      grown =
-          grown_more _ _ _ _ _ c.in_ok-put_box_front.ensures.grown (
-          grown_last _ _ _ c.in_ok-push.ensures.grown);
-    }
+returns c = record { grown = rw (c.in_ok-push.ensures.grown, c.in_ok-put_box_front.ensures.grown) (simp growing); }

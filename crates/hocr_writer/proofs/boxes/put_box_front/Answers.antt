@@ -1,14 +1,7 @@
-use Rattle.hocr_writer.proofs.Joined.{grown_more, grown_last}
+use Rattle.hocr_writer.specs.Pieces.{box_front}
+use Rattle.hocr_writer.proofs.Joined.{growing}
 use Rattle.hocr_writer.proofs.boxes.put_box_front.Goals as goal
 
 pub returns : goal.returns
-returns c =
-    record {
-      grown =
-          grown_more _ _ _ _ _ c.in_ok-push.ensures.grown (
-          grown_more _ _ _ _ _ c.in_ok-push_number.ensures.grown (
-          grown_more _ _ _ _ _ c.in_ok-push-2.ensures.grown (
-          grown_more _ _ _ _ _ c.in_ok-push_number-2.ensures.grown (
-          grown_more _ _ _ _ _ c.in_ok-push-3.ensures.grown (
-          grown_last _ _ _ c.in_ok-put_box.ensures.grown)))));
-    }
+unfolding box_front
+returns c = record { grown = rw (c.in_ok-put_box.ensures.grown, c.in_ok-push-3.ensures.grown, c.in_ok-push_number-2.ensures.grown, c.in_ok-push-2.ensures.grown, c.in_ok-push_number.ensures.grown, c.in_ok-push.ensures.grown) (simp growing); }

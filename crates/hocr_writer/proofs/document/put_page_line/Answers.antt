@@ -1,21 +1,7 @@
-use Rattle.hocr_writer.proofs.Joined.{grown_more, grown_last}
+use Rattle.hocr_writer.specs.Document.{page_line}
+use Rattle.hocr_writer.proofs.Joined.{growing}
 use Rattle.hocr_writer.proofs.document.put_page_line.Goals as goal
 
 pub returns : goal.returns
-returns c =
-    record {
-      grown =
-          grown_more _ _ _ _ _ c.in_ok-push.ensures.grown (
-          grown_more _ _ _ _ _ c.in_ok-push_number.ensures.grown (
-          grown_more _ _ _ _ _ c.in_ok-push-2.ensures.grown (
-          grown_more _ _ _ _ _ c.in_ok-put_image.ensures.grown (
-          grown_more _ _ _ _ _ c.in_ok-push-3.ensures.grown (
-          grown_more _ _ _ _ _ c.in_ok-push_number-2.ensures.grown (
-          grown_more _ _ _ _ _ c.in_ok-push-4.ensures.grown (
-          grown_more _ _ _ _ _ c.in_ok-push_number-3.ensures.grown (
-          grown_more _ _ _ _ _ c.in_ok-push-5.ensures.grown (
-          grown_more _ _ _ _ _ c.in_ok-push_number-4.ensures.grown (
-          grown_more _ _ _ _ _ c.in_ok-push-6.ensures.grown (
-          grown_more _ _ _ _ _ c.in_ok-push_number-5.ensures.grown (
-          grown_last _ _ _ c.in_ok-push-7.ensures.grown))))))))))));
-    }
+unfolding page_line
+returns c = record { grown = rw (c.in_ok-push-7.ensures.grown, c.in_ok-push_number-5.ensures.grown, c.in_ok-push-6.ensures.grown, c.in_ok-push_number-4.ensures.grown, c.in_ok-push-5.ensures.grown, c.in_ok-push_number-3.ensures.grown, c.in_ok-push-4.ensures.grown, c.in_ok-push_number-2.ensures.grown, c.in_ok-push-3.ensures.grown, c.in_ok-put_image.ensures.grown, c.in_ok-push-2.ensures.grown, c.in_ok-push_number.ensures.grown, c.in_ok-push.ensures.grown) (simp growing); }

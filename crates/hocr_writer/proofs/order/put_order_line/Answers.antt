@@ -1,13 +1,7 @@
-use Rattle.hocr_writer.proofs.Joined.{grown_more, grown_last}
+use Rattle.hocr_writer.specs.Document.{order_line}
+use Rattle.hocr_writer.proofs.Joined.{growing}
 use Rattle.hocr_writer.proofs.order.put_order_line.Goals as goal
 
 pub returns : goal.returns
-returns c =
-    record {
-      grown =
-          grown_more _ _ _ _ _ c.in_ok-push.ensures.grown (
-          grown_more _ _ _ _ _ c.in_ok-push_number.ensures.grown (
-          grown_more _ _ _ _ _ c.in_ok-push-2.ensures.grown (
-          grown_more _ _ _ _ _ c.in_ok-put_order.ensures.grown (
-          grown_last _ _ _ c.in_ok-push-3.ensures.grown))));
-    }
+unfolding order_line
+returns c = record { grown = rw (c.in_ok-push-3.ensures.grown, c.in_ok-put_order.ensures.grown, c.in_ok-push-2.ensures.grown, c.in_ok-push_number.ensures.grown, c.in_ok-push.ensures.grown) (simp growing); }

@@ -2,7 +2,7 @@ use Rattle.std.proofs.Common.{◌≡◌, ℕ, ◌<◌, false, length, drop, take
 use Rattle.std.specs.List.{range_with_len}
 use Rattle.std.proofs.lemmas.List.{length_push}
 use Rattle.reading_order.specs.Tables.{Marks}
-use Rattle.reading_order.specs.Looking.{AreLooked, IsLeastFree, IsNotFree}
+use Rattle.reading_order.specs.Looking.{AreLooked, IsLeastFreeNumber, IsNotFree}
 use Rattle.reading_order.proofs.Taking.{free_from, flags_push, looked_push, flags_nil, looked_nil, greedy_full, greedy_stuck}
 use Rattle.reading_order.proofs.Fronts.{IsFront-push, IsFront-nil}
 use Rattle.reading_order.proofs.front.take_free.Goals as goal
@@ -21,13 +21,13 @@ loop-count-preserved c =
     let order = c.loop-count.order in
     let v = c.in-Some.number in
     let inv = c.loop-count.invariant in
-    let found : IsLeastFree before c.loop-count.taken.items v = rw c.deref.ensures.value at c.in-Some.ensures.least in
+    let found : IsLeastFreeNumber before c.loop-count.taken.items v = rw c.deref.ensures.value at c.in-Some.ensures.least in
     let free = free_from before c.loop-count.taken.items order inv.2 v found in
     let step = IsFront-push (Marks before) before.side order inv.1.0 v inv.1.1 free in
-    let seen : AreLooked before c.loop-count.taken.items c.least_free.new.looked = rw c.deref.ensures.value at c.in-Some.ensures.looked in
-    let looked = looked_push before c.loop-count.taken.items c.least_free.new.looked v seen in
-    let size : length c.least_free.new.looked ≡ c.loop-count.looked.len = omega (arith, seen.count, inv.3.count, c.loop-count.looked.ok.0) in
-    let written = take_at c.least_free.new.looked (drop (length c.least_free.new.looked) c.loop-count.looked.items) c.loop-count.looked.len size in
+    let seen : AreLooked before c.loop-count.taken.items c.least_free_number.new.looked = rw c.deref.ensures.value at c.in-Some.ensures.looked in
+    let looked = looked_push before c.loop-count.taken.items c.least_free_number.new.looked v seen in
+    let size : length c.least_free_number.new.looked ≡ c.loop-count.looked.len = omega (arith, seen.count, inv.3.count, c.loop-count.looked.ok.0) in
+    let written = take_at c.least_free_number.new.looked (drop (length c.least_free_number.new.looked) c.loop-count.looked.items) c.loop-count.looked.len size in
     rw (c.in_ok-push.ensures.grown, written) (
       omega (arith, inv.0, length_push order v),
       step,

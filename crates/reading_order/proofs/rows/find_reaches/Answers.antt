@@ -1,9 +1,9 @@
 use Rattle.std.proofs.Common.{◌≡◌, ℕ, ◌<◌, List, length, map, get_or, arith, ◌∙◌, ap, subst}
 use Rattle.std.proofs.lemmas.List.{get_or_read, length-map}
 use Rattle.layout_geom.specs.declared.rect.Rect.{Rect}
-use Rattle.reading_order.specs.Rules.{middle_of}
+use Rattle.reading_order.specs.Rules.{twice_middle_of}
 use Rattle.reading_order.specs.Reach.{AreReaches}
-use Rattle.reading_order.specs.Sweeps.{height_of}
+use Rattle.reading_order.specs.Sweeps.{level_from_below}
 use Rattle.reading_order.proofs.Finding.{row_reaches}
 use Rattle.reading_order.proofs.rows.find_reaches.Goals as goal
 
@@ -24,5 +24,5 @@ returns-clause-reaches c =
     let first = c.index-lines-later.result in
     let edge = c.x0-edge.result in
     row_reaches lines later c.requires.later edge (λ d. c.x0-edge.ensures.value ∙ ap (λ (r : Rect). r.x0) (get_or_read lines later first c.requires.later c.index-lines-later.is d)) c.args.reaches.now c.fill_reaches.new.reaches c.fill_reaches-2.new.reaches
-    (reaches_of lines middle_of c.args.down.now.levels.items c.deref.result.now later c.index.result.now edge c.args.reaches.now c.fill_reaches.new.reaches c.requires.later c.requires.down.levels c.deref.ensures.value c.index.ensures c.fill_reaches.ensures)
-    (reaches_of lines height_of c.args.up.now.levels.items c.deref-3.result.now later c.index-2.result.now edge c.fill_reaches.new.reaches c.fill_reaches-2.new.reaches c.requires.later c.requires.up.levels c.deref-3.ensures.value c.index-2.ensures c.fill_reaches-2.ensures)
+    (reaches_of lines twice_middle_of c.args.down.now.levels.items c.deref.result.now later c.index.result.now edge c.args.reaches.now c.fill_reaches.new.reaches c.requires.later c.requires.down.levels c.deref.ensures.value c.index.ensures c.fill_reaches.ensures)
+    (reaches_of lines level_from_below c.args.up.now.levels.items c.deref-3.result.now later c.index-2.result.now edge c.fill_reaches.new.reaches c.fill_reaches-2.new.reaches c.requires.later c.requires.up.levels c.deref-3.ensures.value c.index-2.ensures c.fill_reaches-2.ensures)

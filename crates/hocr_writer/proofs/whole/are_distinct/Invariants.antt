@@ -1,6 +1,6 @@
 use Rattle.std.proofs.Common.{◌≡◌, ◌<◌, ℕ, length}
 use Rattle.std.specs.Prelude.{slice_index}
-use Rattle.hocr_writer.proofs.whole.are_apart.Given as goal
+use Rattle.hocr_writer.proofs.whole.are_distinct.Given as goal
 
 -- The numbers so far are equal to none behind them.
 abbrev pub invariant-loop-place : goal.invariant-loop-place
