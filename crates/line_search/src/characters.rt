@@ -4,7 +4,8 @@ ghost use Rattle.line_search.specs.Lines;
 ghost use Rattle.line_search.specs.Lines.{characters_of};
 
 use components::{Kept, is_char_sized};
-use layout_geom::{Numbers, OutOfMemory, Rect};
+use layout_geom::{Numbers, Rect};
+use layout_limits::OutOfMemory;
 use std::alloc::Global;
 
 /// Whether a box has about the size of a character.

@@ -5,7 +5,8 @@ ghost use Rattle.layout_geom.specs.declared.rect.Rect.{Rect};
 ghost use Rattle.layout_geom.specs.Rectangles.{IsClear};
 ghost use Rattle.whitespace_cover.specs.Bars.{IsJoint, LeaveSame, IsTurned};
 
-use layout_geom::{OutOfMemory, Rect, Rects};
+use layout_geom::{Rect, Rects};
+use layout_limits::{MAX_SIDE, OutOfMemory};
 use std::alloc::Global;
 
 /// The joint of a bar and the next rectangle: in the rows that they share, from the left side of the bar to
@@ -73,7 +74,7 @@ fn sweep(
     last: &mut [usize],
     least: u16,
 ) -> Result<Vec<Rect>, OutOfMemory>
-    requires { length last.old ≡ 8192 }
+    requires { length last.old ≡ MAX_SIDE }
     ensures same { IfOk result (λ bars. LeaveSame least bars.items rects.now) }
     ensures few { IfOk result (λ bars. length bars.items ≤ 2 * length rects.now) }
 {
@@ -93,7 +94,7 @@ fn joined(alloc: Global, mut rects: Vec<Rect>, least: u16) -> Result<Vec<Rect>, 
     ensures few { IfOk result (λ bars. length bars.items ≤ 2 * length rects.items) }
 {
     rects.sort_unstable_by_key(|rect| (rect.x0(), rect.y0()));
-    let mut last = Vec::from_elem(alloc, usize::MAX, Rect::MOST_SIDE as usize)?;
+    let mut last = Vec::from_elem(alloc, usize::MAX, MAX_SIDE as usize)?;
     let bars = sweep(alloc, &rects, &mut last, least)?;
     Ok(bars)
 }

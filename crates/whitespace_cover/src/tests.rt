@@ -5,7 +5,8 @@ mod plain;
 
 use crate::White;
 use box_search::{Alone, Noted, Searcher};
-use layout_geom::{OutOfMemory, Rect, Rects};
+use layout_geom::{Rect, Rects};
+use layout_limits::OutOfMemory;
 use plain::{Sides, best_of_all, chance_box, next_number, rank_of};
 use std::alloc::Global;
 use std::process::Abort;

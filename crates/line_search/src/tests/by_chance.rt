@@ -5,6 +5,7 @@ use crate::{Line, lines};
 use box_search::Alone;
 use components::Kept;
 use layout_geom::Rect;
+use line_quality::MAX_GUTTERS;
 use std::alloc::Global;
 use std::process::Abort;
 use std::test::Fail;
@@ -77,7 +78,7 @@ fn compare_page(
         median: 6,
     };
     let gutters = rects_of(alloc, gutter_sides)?;
-    assert!(rt; kept.boxes.len() <= 60_000 && gutters.len() <= 256);
+    assert!(rt; kept.boxes.len() <= 60_000 && gutters.len() <= MAX_GUTTERS);
     let found = lines(alloc, &kept, &gutters, HEIGHT, &mut Alone)?;
     let mut boxes: Vec<(Sides, bool)> = Vec::new(alloc);
     for box_sides in sides {

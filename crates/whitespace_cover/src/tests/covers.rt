@@ -3,7 +3,8 @@ use super::plain::{Sides, chance_box, next_number};
 use super::{rect_of, rects_of};
 use crate::{White, cover, cover_is_unique};
 use box_search::{Alone, Searcher};
-use layout_geom::{OutOfMemory, Rect, Rects};
+use layout_geom::{Rect, Rects};
+use layout_limits::OutOfMemory;
 use std::alloc::Global;
 use std::test::Fail;
 
