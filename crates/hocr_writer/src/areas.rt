@@ -25,7 +25,12 @@ fn number_at(layout: &Layout, position: usize) -> usize
 }
 
 // An area begins.
-fn put_area_line(text: &mut TextBuffer, page: u32, number: usize, bbox: &Rect) -> Result<(), OutOfMemory>
+fn put_area_line(
+    text: &mut TextBuffer,
+    page: u32,
+    number: usize,
+    bbox: &Rect,
+) -> Result<(), OutOfMemory>
     ensures grown { OnOk result (text.new ≡ text.old ++ area_line page number bbox.now) }
 {
     put_box_front(
@@ -43,7 +48,8 @@ fn put_area_line(text: &mut TextBuffer, page: u32, number: usize, bbox: &Rect) -
 fn put_lines(text: &mut TextBuffer, layout: &Layout, area: &Area) -> Result<(), OutOfMemory>
     requires names { NamesLines layout.now.order (length layout.now.lines) }
     requires within { area.now.first + area.now.count ≤ length (listing_of layout.now) }
-    ensures grown { OnOk result (text.new ≡ text.old ++ joined_pieces (numbered_pieces (placed_line layout.now) 0 (lines_in layout.now area.now))) }
+    ensures grown { OnOk result (text.new ≡ text.old
+        ++ joined_pieces (numbered_pieces (placed_line layout.now) 0 (lines_in layout.now area.now))) }
 {
     let first = area.first as usize;
     for place in 0..area.count as usize {
@@ -54,7 +60,12 @@ fn put_lines(text: &mut TextBuffer, layout: &Layout, area: &Area) -> Result<(), 
 }
 
 // An area of a number, with its lines.
-fn put_area(text: &mut TextBuffer, layout: &Layout, number: usize, area: &Area) -> Result<(), OutOfMemory>
+fn put_area(
+    text: &mut TextBuffer,
+    layout: &Layout,
+    number: usize,
+    area: &Area,
+) -> Result<(), OutOfMemory>
     requires names { NamesLines layout.now.order (length layout.now.lines) }
     requires within { area.now.first + area.now.count ≤ length (listing_of layout.now) }
     ensures grown { OnOk result (text.new ≡ text.old ++ area_text layout.now number area.now) }

@@ -50,7 +50,8 @@ fn put_page_line(text: &mut TextBuffer, layout: &Layout) -> Result<(), OutOfMemo
 
 // A line for each white rectangle.
 fn put_whites(text: &mut TextBuffer, layout: &Layout) -> Result<(), OutOfMemory>
-    ensures grown { OnOk result (text.new ≡ text.old ++ joined_pieces (numbered_pieces (white_line layout.now.page) 0 layout.now.whites)) }
+    ensures grown { OnOk result (text.new ≡ text.old
+        ++ joined_pieces (numbered_pieces (white_line layout.now.page) 0 layout.now.whites)) }
 {
     let opening = b"<div class='ocrx_whitespace' id='white_";
     put_box_lines(text, opening, layout.page, &layout.whites)
@@ -58,7 +59,8 @@ fn put_whites(text: &mut TextBuffer, layout: &Layout) -> Result<(), OutOfMemory>
 
 // A line for each gutter.
 fn put_gutters(text: &mut TextBuffer, layout: &Layout) -> Result<(), OutOfMemory>
-    ensures grown { OnOk result (text.new ≡ text.old ++ joined_pieces (numbered_pieces (gutter_line layout.now.page) 0 layout.now.gutters)) }
+    ensures grown { OnOk result (text.new ≡ text.old
+        ++ joined_pieces (numbered_pieces (gutter_line layout.now.page) 0 layout.now.gutters)) }
 {
     let opening = b"<div class='ocr_separator' id='gutter_";
     put_box_lines(text, opening, layout.page, &layout.gutters)

@@ -5,8 +5,8 @@ ghost use Rattle.hocr_writer.specs.Lines.{sign_text, slope_text, constant_of, ma
 use crate::boxes::put_box_front;
 use crate::layout::Mark;
 use crate::text::TextBuffer;
-use line_quality::height_at;
 use layout_limits::OutOfMemory;
+use line_quality::height_at;
 
 // The sign of a number, where it is negative.
 fn sign(slope: i8) -> &'static [u8]
@@ -39,7 +39,12 @@ fn constant(mark: Mark) -> i32
 }
 
 /// A text line of a number.
-pub fn put_mark(text: &mut TextBuffer, page: u32, number: usize, mark: Mark) -> Result<(), OutOfMemory>
+pub fn put_mark(
+    text: &mut TextBuffer,
+    page: u32,
+    number: usize,
+    mark: Mark,
+) -> Result<(), OutOfMemory>
     ensures grown { OnOk result (text.new ≡ text.old ++ mark_line page number mark) }
 {
     put_box_front(

@@ -24,7 +24,11 @@ fn put_size_line(text: &mut TextBuffer, layout: &Layout) -> Result<(), OutOfMemo
 }
 
 // A count, behind what is counted.
-fn put_count_line<I: Integer>(text: &mut TextBuffer, counted: &[u8], count: I) -> Result<(), OutOfMemory>
+fn put_count_line<I: Integer>(
+    text: &mut TextBuffer,
+    counted: &[u8],
+    count: I,
+) -> Result<(), OutOfMemory>
     ensures grown { OnOk result (text.new ≡ text.old ++ joined_pieces (counted.now ∷ I.text count ∷ codes "\n" ∷ [])) }
 {
     text.push(counted)?;

@@ -98,10 +98,12 @@ const CASES: [Case; 2] = [SLANTED_LINES, CYCLE];
 fn document(alloc: Global, case: &Case) -> Result<String, Fail> {
     let order = case.order_text;
     let element = case.element;
-    Ok(format!(in alloc; "\
+    Ok(format!(in alloc;
+        "\
 <!DOCTYPE html>\n<html>\n<head>\n<title>layout</title>\n<meta charset='utf-8'>\n<meta name='ocr-system' content='layout'>\n\
 <meta name='ocr-capabilities' content='ocr_page ocr_carea ocr_line ocr_separator'>\n\
-<meta name='layout-order' content='{order}'>\n</head>\n<body>\n{element}</body>\n</html>\n")?)
+<meta name='layout-order' content='{order}'>\n</head>\n<body>\n{element}</body>\n</html>\n"
+    )?)
 }
 
 fn rect([x0, y0, x1, y1]: &Sides) -> Result<Rect, Fail> {

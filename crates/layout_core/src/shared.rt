@@ -8,8 +8,8 @@ ghost use Rattle.pbm_reader.specs.Fault.{HasFault};
 ghost use Rattle.command_words.specs.declared.plan.Program.{Program};
 ghost use Rattle.command_words.specs.Plans.{HasNoPlan};
 ghost use Rattle.box_search.specs.Search.{IsGreatestKey};
-ghost use Rattle.whitespace_cover.specs.Problem as whites;
-ghost use Rattle.line_search.specs.Problem as grids;
+ghost use Rattle.whitespace_cover.specs.Problem.{white_numbers, IsWhiteKey};
+ghost use Rattle.line_search.specs.Problem.{grid_numbers, IsGridKey};
 ghost use Rattle.layout_core.specs.Layouts.{HasFewComponents, HasTooMany};
 ghost use Rattle.layout_core.specs.Run.{WritesOutput, FrontOfOutput};
 ghost use Rattle.layout_core.specs.Line.{line_of, fault_line};
@@ -105,13 +105,13 @@ pub fn layout_shared<R: Threads + Wait + Sync, S: Source, K: Sink, E: Sink, G: G
     let mut for_whites = FromFn {
         search: |white: &White| -> Result<u64, OutOfMemory>
             requires { (1 ≤ count) × (count ≤ 64) }
-            ensures { IfOk result (IsGreatestKey (whites.IsAdmitted (whites.numbers_of white.now))) }
+            ensures { IfOk result (IsGreatestKey (IsWhiteKey (white_numbers white.now))) }
         { Workers::new(count, gate).best(alloc, rt, white) },
     };
     let mut for_lines = FromFn {
         search: |grid: &Grid| -> Result<u64, OutOfMemory>
             requires { (1 ≤ count) × (count ≤ 64) }
-            ensures { IfOk result (IsGreatestKey (grids.IsAdmitted (grids.numbers_of grid.now))) }
+            ensures { IfOk result (IsGreatestKey (IsGridKey (grid_numbers grid.now))) }
         { Workers::new(count, gate).best(alloc, rt, grid) },
     };
     lay_out(

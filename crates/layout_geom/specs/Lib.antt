@@ -6,3 +6,4 @@ pub mod SameSides
 pub mod PixelLaws
 pub mod KeyLaws
 pub mod BoxNumbers
+pub mod NumberLists

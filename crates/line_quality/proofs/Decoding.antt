@@ -15,8 +15,8 @@ pub record HasDigits (key rank place : ℕ) : Type 0 where
 digits_by : (key s r b : ℕ) → r ≤ 64 → b ≤ 8792 → s * 2 ^ 23 + (64 - r) * 2 ^ 16 + (65535 - b) ≡ key → HasDigits key r b
 digits_by key s r b hr hb e = record { places = omega arith; ranks = omega arith; low = hr; small = hb }
 
-pub digits_of : (key score : ℕ) (slope offset : ℤ) → IsSlope slope → IsOffset offset → line_key score slope offset ≡ key → HasDigits key (rank slope) (unsigned_abs (offset +ℤ pos 300))
-digits_of key score slope offset hs hb is = digits_by key score (rank slope) (unsigned_abs (offset +ℤ pos 300)) (low_rank slope hs) (place_low offset hb) is
+pub line_digits : (key score : ℕ) (slope offset : ℤ) → IsSlope slope → IsOffset offset → line_key score slope offset ≡ key → HasDigits key (rank slope) (unsigned_abs (offset +ℤ pos 300))
+line_digits key score slope offset hs hb is = digits_by key score (rank slope) (unsigned_abs (offset +ℤ pos 300)) (low_rank slope hs) (place_low offset hb) is
 
 pub offset_is : (offset found : ℤ) (place : ℕ) → IsOffset offset → place ≡ unsigned_abs (offset +ℤ pos 300) → found ≡ pos place -ℤ pos 300 → offset ≡ found
 offset_is offset found place h is e = omega (arith, ints, abs_parts (offset +ℤ pos 300), h.low, h.high)

@@ -36,10 +36,10 @@ rise_small s x fits within =
     let sunk : x * down s ≤ x * 128 = mul-le-mul_left x (omega (arith, small s fits, parts s)) in
     omega (arith, risen, sunk, floor_parts (s *ℤ pos x), product_is s (pos x))
 
-abbrev pub IsNear : ℤ → Type 0
-IsNear y = (negsuc 49999 ≤ℤ y) × (y ≤ℤ pos 50000)
+abbrev pub IsNearLine : ℤ → Type 0
+IsNearLine y = (negsuc 49999 ≤ℤ y) × (y ≤ℤ pos 50000)
 
-pub height_near : (s b : ℤ) (x : ℕ) → FitsSigned w8 s → FitsSigned w16 b → x < 2 ^ 16 → IsNear (height_at s b x)
+pub height_near : (s b : ℤ) (x : ℕ) → FitsSigned w8 s → FitsSigned w16 b → x < 2 ^ 16 → IsNearLine (height_at s b x)
 height_near s b x slope offset within = (omega (arith, ints, rise_small s x slope within), omega (arith, ints, rise_small s x slope within))
 
 pub height_is : (s b : ℤ) (x : ℕ) (q : ℤ) → FitsSigned w8 s → FitsSigned w16 b → x < 2 ^ 16 → q ≡ rise s x → to_z w32 (of_z w32 (to_z w32 (of_z w32 (to_z w16 (of_z w16 b))) +ℤ to_z w32 (of_z w32 q))) ≡ height_at s b x

@@ -7,7 +7,8 @@ use Rattle.line_quality.specs.Points.{rise, height_at, IsRounded}
 use borrow.Author.Differences.{up, down, product_is}
 
 -- the quotient that is rounded down
-pub floor_parts : (a : ℤ) → (up (int_div_euclid a (pos 1000)) * 1000 + down a ≤ down (int_div_euclid a (pos 1000)) * 1000 + up a) × (down (int_div_euclid a (pos 1000)) * 1000 + up a < up (int_div_euclid a (pos 1000)) * 1000 + down a + 1000)
+pub floor_parts : (a : ℤ) → (up (int_div_euclid a (pos 1000)) * 1000 + down a ≤ down (int_div_euclid a (pos 1000)) * 1000 + up a)
+    × (down (int_div_euclid a (pos 1000)) * 1000 + up a < up (int_div_euclid a (pos 1000)) * 1000 + down a + 1000)
 floor_parts (pos a) = omega arith
 floor_parts (negsuc a) = omega arith
 

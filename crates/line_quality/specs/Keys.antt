@@ -1,5 +1,6 @@
 -- The key of a scored line of the grid.
 use Rattle.std.specs.Prelude.{◌≡◌, ◌<◌, ℕ, ◌+◌, ◌-◌, ◌*◌, ◌^◌, ℤ, pos, negsuc, ◌+ℤ◌, ◌<ℤ◌, unsigned_abs, ◌⊎◌}
+use Rattle.line_quality.specs.declared.limits.TheConstants.{OFFSET_MARGIN, MAX_RANK}
 use Rattle.line_quality.specs.Points.{IsSlope, IsOffset}
 
 -- 0, 1, -1, 2, -2 and so on
@@ -9,7 +10,7 @@ rank (negsuc n) = 2 * (n + 1)
 
 -- three digits: the score, then the distances of the rank and of the offset from their greatest values
 abbrev pub line_key : ℕ → ℤ → ℤ → ℕ
-line_key score slope offset = score * 2 ^ 23 + (64 - rank slope) * 2 ^ 16 + (65535 - unsigned_abs (offset +ℤ pos 300))
+line_key score slope offset = score * 2 ^ 23 + (MAX_RANK - rank slope) * 2 ^ 16 + (65535 - unsigned_abs (offset +ℤ pos OFFSET_MARGIN))
 
 -- the first line has the lesser score, or else the steeper slope, or else the negative one of two
 -- opposite slopes, or else the greater offset

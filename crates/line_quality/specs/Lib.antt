@@ -6,3 +6,5 @@ pub mod Keys
 pub mod HeightLaws
 pub mod ScoreLaws
 pub mod KeyLaws
+pub mod ColumnLaws
+pub mod SumLaws

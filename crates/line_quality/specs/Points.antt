@@ -1,17 +1,19 @@
 -- Lines of the grid, each a slope in thousandths and an offset.
-use Rattle.std.specs.Prelude.{ℕ, ◌+◌, ◌-◌, ◌*◌, ◌/◌, ℤ, pos, negsuc, ◌+ℤ◌, ◌-ℤ◌, ◌*ℤ◌, ◌≤ℤ◌, ◌<ℤ◌, Bool, ◌&&◌, int_lt, int_le, nat_le, unsigned_abs, List}
+use Rattle.std.specs.Prelude.{ℕ, ◌+◌, ◌-◌, ◌*◌, ◌/◌, ℤ, pos, negsuc, ◌+ℤ◌, ◌-ℤ◌, ◌*ℤ◌, ◌≤ℤ◌, ◌<ℤ◌}
+use Rattle.std.specs.Prelude.{Bool, ◌&&◌, int_lt, int_le, nat_le, unsigned_abs, List}
 use Rattle.std.specs.List.{count_by}
 use Rattle.std.specs.Int.{int_div_euclid}
 use Rattle.layout_geom.specs.declared.Rect.{Rect}
+use Rattle.line_quality.specs.declared.limits.TheConstants.{LEAST_SLOPE, MAX_SLOPE, LEAST_OFFSET, MAX_OFFSET, MAX_WEIGHT}
 
 -- the slopes and the offsets of the grids of all pages
 pub record IsSlope (slope : ℤ) : Type 0 where
-  pub low : negsuc 31 ≤ℤ slope
-  pub high : slope ≤ℤ pos 32
+  pub low : LEAST_SLOPE ≤ℤ slope
+  pub high : slope ≤ℤ MAX_SLOPE
 
 pub record IsOffset (offset : ℤ) : Type 0 where
-  pub low : negsuc 299 ≤ℤ offset
-  pub high : offset ≤ℤ pos 8492
+  pub low : LEAST_OFFSET ≤ℤ offset
+  pub high : offset ≤ℤ MAX_OFFSET
 
 -- how far a line of this slope has risen at column x, rounded towards the lesser number
 abbrev pub rise : ℤ → ℕ → ℤ
@@ -36,7 +38,7 @@ deviation slope offset r = unsigned_abs (height_at slope offset (middle_of r) -�
 
 -- what a foot weighs that is this far from a line
 abbrev pub weight_at : ℕ → ℕ
-weight_at deviation = 25 - deviation * deviation
+weight_at deviation = MAX_WEIGHT - deviation * deviation
 
 abbrev pub weight : ℤ → ℤ → Rect → ℕ
 weight slope offset r = weight_at (deviation slope offset r)

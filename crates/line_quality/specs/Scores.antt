@@ -4,6 +4,12 @@ use Rattle.std.specs.List.{filter, sum_by}
 use Rattle.layout_geom.specs.declared.Rect.{Rect}
 use Rattle.line_quality.specs.Points.{weight, column_of, middle_of}
 
+-- the greatest of what columns have in total, and the least column that has it
+pub record IsGreatest (total : ℕ → ℕ) (score in_column : ℕ) : Type 0 where
+  pub reached : total in_column ≡ score
+  pub greatest : (other : ℕ) → total other ≤ score
+  pub least : (other : ℕ) → other < in_column → total other < score
+
 module _ (slope offset : ℤ) where
   abbrev pub weight_of : Option Rect → ℕ
   weight_of (Some r) = weight slope offset r
@@ -23,7 +29,5 @@ module _ (slope offset : ℤ) where
     group_weight in_column alive = sum_by (λ position. weight_of (slice_get boxes position)) (group_of in_column alive)
 
     -- the greatest weight of a group, and the least column that has it
-    pub record IsScore (alive : List ℕ) (score in_column : ℕ) : Type 0 where
-      pub reached : group_weight in_column alive ≡ score
-      pub greatest : (other : ℕ) → group_weight other alive ≤ score
-      pub least : (other : ℕ) → other < in_column → group_weight other alive < score
+    abbrev pub IsScore : List ℕ → ℕ → ℕ → Type 0
+    IsScore alive score in_column = IsGreatest (λ column. group_weight column alive) score in_column

@@ -3,28 +3,27 @@ ghost use Rattle.std.specs.Prelude.{◌≡◌, ℕ, ◌<◌, ◌≤◌, [], ◌�
 ghost use Rattle.std.specs.List.{count_by};
 ghost use Rattle.line_quality.specs.Crossings.{crossed_middles};
 
+use crate::limits::MAX_GUTTERS;
 use crate::point::{crosses, middle};
 use layout_geom::Rect;
 use std::marker::Model;
 
-/// The most gutters of a page.
-pub(crate) const MOST_GUTTERS: usize = 256;
-
 /// The middle columns of gutters.
 #[derive(Drop)]
 pub(crate) struct Middles {
-    columns: [u16; MOST_GUTTERS],
+    columns: [u16; MAX_GUTTERS],
     count: usize,
 }
 
 impl Model for Middles {
     ghost use Rattle.std.specs.Prelude.{List, ℕ, ◌≤◌, take};
+    ghost use Rattle.line_quality.specs.declared.limits.TheConstants.{MAX_GUTTERS};
 
     ghost Value = { List ℕ };
 
     ghost view = { λ middles. take middles.count middles.columns };
 
-    ghost invariant = { λ middles. middles.count ≤ 256 };
+    ghost invariant = { λ middles. middles.count ≤ MAX_GUTTERS };
 }
 
 impl Middles {
@@ -32,13 +31,13 @@ impl Middles {
         ensures { result ≡ [] }
     {
         Middles {
-            columns: [0; MOST_GUTTERS],
+            columns: [0; MAX_GUTTERS],
             count: 0,
         }
     }
 
     fn push(&mut self, middle: u16)
-        requires { length self.old < 256 }
+        requires { length self.old < MAX_GUTTERS }
         ensures { self.new ≡ self.old ++ middle ∷ [] }
     {
         self.columns[self.count] = middle;
@@ -48,7 +47,7 @@ impl Middles {
     /// How many there are.
     pub(crate) fn len(&self) -> usize
         ensures value { result ≡ length self.now }
-        ensures small { result ≤ 256 }
+        ensures small { result ≤ MAX_GUTTERS }
     {
         self.count
     }
@@ -57,7 +56,7 @@ impl Middles {
     pub(crate) fn column(&self, anchor: u16) -> usize
         ensures value { result ≡ count_by (λ middle. nat_le middle anchor) self.now }
         ensures few { result ≤ length self.now }
-        ensures small { result ≤ 256 }
+        ensures small { result ≤ MAX_GUTTERS }
     {
         self.columns[..self.count]
             .iter()
@@ -68,7 +67,7 @@ impl Middles {
 
 /// The middles of the gutters that a line crosses, in the order of the gutters.
 pub(crate) fn crossed(slope: i8, offset: i16, gutters: &[Rect]) -> Middles
-    requires { length gutters.now ≤ 256 }
+    requires { length gutters.now ≤ MAX_GUTTERS }
     ensures value { result ≡ crossed_middles slope offset gutters.now }
     ensures few { length result ≤ length gutters.now }
 {

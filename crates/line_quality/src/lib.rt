@@ -4,11 +4,16 @@
 
 mod crossed;
 mod key;
+mod limits;
 mod point;
 mod score;
 #[cfg(test)]
 mod tests;
 
 pub use key::{line_key, point_of};
+pub use limits::{
+    LEAST_OFFSET, LEAST_SLOPE, MAX_COLUMNS, MAX_GUTTERS, MAX_OFFSET, MAX_SCORE, MAX_SLOPE,
+    MAX_WEIGHT, OFFSET_MARGIN,
+};
 pub use point::{column, crosses, height_at, middle, weight, weight_at};
-pub use score::{COLUMNS, Score, greatest, score_at};
+pub use score::{Score, greatest, score_at};

@@ -4,6 +4,7 @@ ghost use Rattle.std.specs.Prelude.{◌≡◌, ◌<◌, ◌≤◌, ◌↔◌, Is
 ghost use Rattle.line_quality.specs.Points;
 ghost use Rattle.line_quality.specs.Points.{IsRounded, Crosses};
 
+use crate::limits::{MAX_GUTTERS, MAX_WEIGHT};
 use layout_geom::{Rect, Rects};
 
 /// The height of a line at a column of the page, counted in rows from the top: the offset and
@@ -32,7 +33,7 @@ pub fn weight_at(deviation: u32) -> u32
     ensures value { result ≡ Points.weight_at deviation }
 {
     if deviation < 5 {
-        25 - deviation * deviation
+        MAX_WEIGHT - deviation * deviation
     } else {
         0
     }
@@ -41,7 +42,7 @@ pub fn weight_at(deviation: u32) -> u32
 /// What a box weighs for a line, by how far the line passes from its foot at its middle column.
 pub fn weight(slope: i8, offset: i16, rect: &Rect) -> u32
     ensures value { result ≡ Points.weight slope offset rect.now }
-    ensures small { result ≤ 25 }
+    ensures small { result ≤ MAX_WEIGHT }
 {
     let foot = rect.y1() as i32;
     weight_at(height_at(slope, offset, middle(rect)).abs_diff(foot))
@@ -60,7 +61,7 @@ pub fn crosses(slope: i8, offset: i16, gutter: &Rect) -> bool
 /// The column of an anchor: how many of the gutters that the line crosses have their middle at the
 /// anchor or to its left.
 pub fn column(slope: i8, offset: i16, gutters: &Rects, anchor: u16) -> u32
-    requires { length gutters.now ≤ 256 }
+    requires { length gutters.now ≤ MAX_GUTTERS }
     ensures value { result ≡ Points.column_of slope offset gutters.now anchor }
     ensures few { result ≤ length gutters.now }
 {

@@ -4,6 +4,7 @@ ghost use Rattle.std.specs.List.{sum_by};
 ghost use Rattle.line_quality.specs.Scores.{IsScore, weight_of};
 
 use crate::crossed::crossed;
+use crate::limits::{MAX_COLUMNS, MAX_GUTTERS, MAX_WEIGHT};
 use crate::point::{middle, weight};
 use layout_geom::{Numbers, Rects};
 
@@ -16,13 +17,10 @@ pub struct Score {
     pub column: u32,
 }
 
-/// The most columns of a line: one more than the most gutters.
-pub const COLUMNS: usize = 257;
-
 /// The greatest of the sums of columns, and the least column that has it.
 pub fn greatest(sums: &[u32]) -> Score
     requires some { 0 < length sums.now }
-    requires few { length sums.now ≤ 257 }
+    requires few { length sums.now ≤ MAX_COLUMNS }
     ensures reached { slice_index sums.now result.column ≡ result.score }
     ensures greatest { (column : ℕ) → slice_index sums.now column ≤ result.score }
     ensures least { (column : ℕ) → column < result.column → slice_index sums.now column < result.score }
@@ -49,18 +47,18 @@ pub fn greatest(sums: &[u32]) -> Score
 /// One call looks once at each gutter and once at each position, and for a box that weighs
 /// something at each crossed gutter. It takes no memory.
 pub fn score_at(slope: i8, offset: i16, boxes: &Rects, alive: &Numbers, gutters: &Rects) -> Score
-    requires few_gutters { length gutters.now ≤ 256 }
+    requires few_gutters { length gutters.now ≤ MAX_GUTTERS }
     requires few_alive { length alive.now ≤ 60000 }
     requires positions { All (λ position. position < length boxes.now) alive.now }
     ensures score { IsScore slope offset boxes.now gutters.now alive.now result.score result.column }
     // It is no more than all the boxes weigh, so 0 with column 0 where none weighs anything.
     ensures total { result.score ≤ sum_by (λ position. weight_of slope offset (slice_get boxes.now position)) alive.now }
     ensures none { result.score ≡ 0 → result.column ≡ 0 }
-    ensures small { result.score ≤ 25 * length alive.now }
+    ensures small { result.score ≤ MAX_WEIGHT * length alive.now }
     ensures within { result.column ≤ length gutters.now }
 {
     let middles = crossed(slope, offset, gutters.as_slice());
-    let mut sums = [0; COLUMNS];
+    let mut sums = [0; MAX_COLUMNS];
     for position in alive.as_slice() {
         let rect = boxes.get(*position as usize);
         let weight = weight(slope, offset, rect);

@@ -2,8 +2,8 @@
 ghost use Rattle.std.specs.Prelude.{◌≡◌, ◌<◌, ◌≤◌, IfOk, All, length};
 
 use crate::{
-    Score, column, crosses, greatest, height_at, line_key, middle, point_of, score_at, weight,
-    weight_at,
+    MAX_GUTTERS, Score, column, crosses, greatest, height_at, line_key, middle, point_of, score_at,
+    weight, weight_at,
 };
 use layout_geom::{Numbers, Rect, Rects};
 use layout_limits::OutOfMemory;
@@ -42,45 +42,39 @@ const SINKING: [Sides; 3] = [(0, 20, 10, 30), (500, 25, 510, 35), (1000, 30, 101
 
 const RISING: [Sides; 3] = [(1000, 20, 1010, 30), (500, 25, 510, 35), (0, 30, 10, 40)];
 
-// The first row of two columns of three, and the gutter between them.
-const ROW: [Sides; 6] = [
-    (2, 2, 12, 12),
-    (14, 2, 24, 12),
-    (26, 2, 36, 12),
-    (48, 2, 58, 12),
-    (60, 2, 70, 12),
-    (72, 2, 82, 12),
-];
+// The left sides of the glyphs of a row of two columns of three, and the gutter between them.
+const ROW: [u16; 6] = [2, 14, 26, 48, 60, 72];
 
 const GUTTER: [Sides; 1] = [(36, 0, 48, 41)];
 
-// A heading of seven, whose feet stand on the top edge of the gutter below it.
-const HEADING: [Sides; 7] = [
-    (2, 2, 12, 12),
-    (14, 2, 24, 12),
-    (26, 2, 36, 12),
-    (38, 2, 48, 12),
-    (50, 2, 60, 12),
-    (62, 2, 72, 12),
-    (74, 2, 84, 12),
-];
+// Those of a heading of seven, whose feet stand on the top edge of the gutter below it.
+const HEADING: [u16; 7] = [2, 14, 26, 38, 50, 62, 74];
 
 const BELOW: [Sides; 1] = [(36, 12, 48, 53)];
 
-fn score_among(
-    alloc: Global,
-    slope: i8,
-    offset: i16,
-    sides: &[Sides],
-    gutters: &[Sides],
-) -> Result<Score, Fail>
-    requires few_sides { length sides.now ≤ 60000 }
-    requires few_gutters { length gutters.now ≤ 256 }
-{
-    let boxes = rects(alloc, sides)?;
-    let alive = positions(alloc, sides.len() as u32)?;
-    let gutters = rects(alloc, gutters)?;
-    Ok(score_at(slope, offset, &boxes, &alive, &gutters))
+/// The boxes of a case: given by their sides, or a row of glyphs of 10 by 10 pixels with their feet at 12, given by
+/// their left sides.
+#[derive(Clone, Copy)]
+enum Boxes {
+    Given(&'static [Sides]),
+    Row(&'static [u16]),
+}
+
+/// The glyphs of a row.
+fn glyphs(alloc: Global, lefts: &[u16]) -> Result<Rects, Fail> {
+    let mut boxes = Rects::new(alloc);
+    for left in lefts {
+        boxes.push(Rect::new(*left, 2, left.saturating_add(10), 12).ok_or("no rectangle")?)?;
+    }
+    Ok(boxes)
+}
+
+/// The boxes of a case.
+fn boxes_of(alloc: Global, boxes: Boxes) -> Result<Rects, Fail> {
+    match boxes {
+        Boxes::Given(sides) => rects(alloc, sides),
+        Boxes::Row(lefts) => glyphs(alloc, lefts),
+    }
 }
 
 #[test]
@@ -182,94 +176,30 @@ fn a_column_is_counted_from_the_left(rt: HostRuntime) -> Result<(), Fail> {
 #[test]
 fn a_score_is_that_of_the_best_column(rt: HostRuntime) -> Result<(), Fail> {
     let none: [Sides; 0] = [];
+    let sinking = Boxes::Given(&SINKING);
+    let rising = Boxes::Given(&RISING);
+    let row = Boxes::Row(&ROW);
+    let heading = Boxes::Row(&HEADING);
+    let (cut, below, whole) = (GUTTER.as_slice(), BELOW.as_slice(), none.as_slice());
     let cases = [
-        ("no box", 0, 12, none.as_slice(), none.as_slice(), 0, 0),
-        (
-            "sinking",
-            10,
-            30,
-            SINKING.as_slice(),
-            none.as_slice(),
-            75,
-            0,
-        ),
-        (
-            "sinking, one row lower",
-            10,
-            31,
-            SINKING.as_slice(),
-            none.as_slice(),
-            72,
-            0,
-        ),
-        (
-            "sinking, but flat",
-            0,
-            35,
-            SINKING.as_slice(),
-            none.as_slice(),
-            25,
-            0,
-        ),
-        ("rising", -10, 41, RISING.as_slice(), none.as_slice(), 75, 0),
-        (
-            "rising, one row higher",
-            -10,
-            40,
-            RISING.as_slice(),
-            none.as_slice(),
-            72,
-            0,
-        ),
-        (
-            "two columns, no gutter",
-            0,
-            12,
-            ROW.as_slice(),
-            none.as_slice(),
-            150,
-            0,
-        ),
-        (
-            "two columns, a tie",
-            0,
-            12,
-            ROW.as_slice(),
-            GUTTER.as_slice(),
-            75,
-            0,
-        ),
-        (
-            "two columns, far above",
-            0,
-            0,
-            ROW.as_slice(),
-            GUTTER.as_slice(),
-            0,
-            0,
-        ),
-        (
-            "heading, on the top edge",
-            0,
-            12,
-            HEADING.as_slice(),
-            BELOW.as_slice(),
-            175,
-            0,
-        ),
-        (
-            "heading, cut: four to three",
-            0,
-            13,
-            HEADING.as_slice(),
-            BELOW.as_slice(),
-            96,
-            1,
-        ),
+        ("no box", 0, 12, Boxes::Given(&[]), whole, 0, 0),
+        ("sinking", 10, 30, sinking, whole, 75, 0),
+        ("sinking, one row lower", 10, 31, sinking, whole, 72, 0),
+        ("sinking, but flat", 0, 35, sinking, whole, 25, 0),
+        ("rising", -10, 41, rising, whole, 75, 0),
+        ("rising, one row higher", -10, 40, rising, whole, 72, 0),
+        ("two columns, no gutter", 0, 12, row, whole, 150, 0),
+        ("two columns, a tie", 0, 12, row, cut, 75, 0),
+        ("two columns, far above", 0, 0, row, cut, 0, 0),
+        ("heading, on the top edge", 0, 12, heading, below, 175, 0),
+        ("heading, cut: four to three", 0, 13, heading, below, 96, 1),
     ];
-    for (name, slope, offset, sides, gutters, score, column) in cases {
-        assert!(rt; sides.len() <= 60_000 && gutters.len() <= 256);
-        let found = score_among(rt.alloc(), slope, offset, sides, gutters)?;
+    for (name, slope, offset, boxes, gutters, score, column) in cases {
+        let boxes = boxes_of(rt.alloc(), boxes)?;
+        let gutters = rects(rt.alloc(), gutters)?;
+        assert!(rt; boxes.len() <= 60_000 && gutters.len() <= MAX_GUTTERS);
+        let alive = positions(rt.alloc(), boxes.len() as u32)?;
+        let found = score_at(slope, offset, &boxes, &alive, &gutters);
         assert_eq!(rt; found, Score { score, column }, "{name}");
     }
     Ok(())
@@ -277,8 +207,9 @@ fn a_score_is_that_of_the_best_column(rt: HostRuntime) -> Result<(), Fail> {
 
 #[test]
 fn only_living_boxes_count(rt: HostRuntime) -> Result<(), Fail> {
-    let boxes = rects(rt.alloc(), &ROW)?;
+    let boxes = glyphs(rt.alloc(), &ROW)?;
     let gutters = rects(rt.alloc(), &GUTTER)?;
+    assert!(rt; boxes.len() == 6);
     let mut alive = Numbers::new(rt.alloc());
     alive.push(3)?;
     alive.push(5)?;

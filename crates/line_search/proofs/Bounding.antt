@@ -7,9 +7,9 @@ use Rattle.line_quality.specs.Scores.{group_weight, weight_of, IsScore}
 use Rattle.line_quality.specs.Keys.{line_key, rank}
 use Rattle.line_quality.specs.KeyLaws.{abs_parts}
 use Rattle.line_search.specs.Lines.{IsPoint}
-use Rattle.line_search.specs.Problem.{Problem}
+use Rattle.line_search.specs.Problem.{GridProblem}
 use Rattle.line_search.specs.Shapes.{IsInside, IsInGrid}
-use Rattle.line_search.specs.Bounds.{reaching, total_reach, nearest_slope, HasMost, IsOver, IsBound}
+use Rattle.line_search.specs.Bounds.{weighing, most_together, nearest_slope, HasMost, IsOver, IsBound}
 use Rattle.line_search.specs.GridLaws.{inside_of}
 use Rattle.line_search.specs.Parts.{HasNoPoint}
 use Rattle.line_search.proofs.Reaching.{same_group, same_total}
@@ -60,7 +60,7 @@ pub first_inside : (height : ℕ) (shape : Shape) → IsInGrid height shape → 
 first_inside height shape grid = record { from_slope = omega (arith, ints); to_slope = grid.some_slope; from_offset = omega (arith, ints); to_offset = grid.some_offset }
 
 -- a score among the positions of a node is one among all that are alive
-all_scored : (problem : Problem) (shape : Shape) (slope offset : ℤ) → IsInside slope offset shape → (positions : List ℕ) → reaching shape problem.boxes positions ≡ reaching shape problem.boxes problem.alive → (score in_column : ℕ) → IsScore slope offset problem.boxes problem.gutters positions score in_column → IsScore slope offset problem.boxes problem.gutters problem.alive score in_column
+all_scored : (problem : GridProblem) (shape : Shape) (slope offset : ℤ) → IsInside slope offset shape → (positions : List ℕ) → weighing shape problem.boxes positions ≡ weighing shape problem.boxes problem.alive → (score in_column : ℕ) → IsScore slope offset problem.boxes problem.gutters positions score in_column → IsScore slope offset problem.boxes problem.gutters problem.alive score in_column
 all_scored problem shape slope offset inside positions enough score in_column scored =
     let weigh : List ℕ → ℕ = λ xs. sum_by (λ (position : ℕ). weight_of slope offset (slice_get problem.boxes position)) xs in
     let same : (k : ℕ) → group_weight slope offset problem.boxes problem.gutters k positions ≡ group_weight slope offset problem.boxes problem.gutters k problem.alive =
@@ -72,7 +72,7 @@ all_scored problem shape slope offset inside positions enough score in_column sc
     }
 
 -- what the positions of a node say of its bound
-pub bound_of : (problem : Problem) (shape : Shape) → IsInGrid problem.height shape → (positions : List ℕ) → reaching shape problem.boxes positions ≡ reaching shape problem.boxes problem.alive → (most in_column key : ℕ) → HasMost shape problem.boxes problem.gutters positions most in_column → key ≡ line_key most (nearest_slope shape) shape.b0 → IsBound problem shape key
+pub bound_of : (problem : GridProblem) (shape : Shape) → IsInGrid problem.height shape → (positions : List ℕ) → weighing shape problem.boxes positions ≡ weighing shape problem.boxes problem.alive → (most in_column key : ℕ) → HasMost shape problem.boxes problem.gutters positions most in_column → key ≡ line_key most (nearest_slope shape) shape.b0 → IsBound problem shape key
 bound_of problem shape grid positions same most in_column key has is = rw is (record {
   over = λ slope offset score scored inside.
       let group : group_weight slope offset problem.boxes problem.gutters scored.in_column positions ≡ group_weight slope offset problem.boxes problem.gutters scored.in_column problem.alive =
@@ -84,12 +84,12 @@ bound_of problem shape grid positions same most in_column key has is = rw is (re
   single = λ single.
       let scored = all_scored problem shape shape.a0 shape.b0 (first_inside problem.height shape grid) positions same most in_column (single_score shape single problem.boxes problem.gutters positions most in_column has) in
       (most, record { point = first_point problem.height shape grid; in_column = in_column; scored = scored }, ap (λ (z : ℤ). line_key most z shape.b0) (sym (single_nearest shape single)));
-  wide = λ _. key_below most (total_reach shape problem.boxes problem.alive) (rank (nearest_slope shape)) (rank (nearest_slope shape)) (unsigned_abs (shape.b0 +ℤ pos 300)) (unsigned_abs (shape.b0 +ℤ pos 300))
+  wide = λ _. key_below most (most_together shape problem.boxes problem.alive) (rank (nearest_slope shape)) (rank (nearest_slope shape)) (unsigned_abs (shape.b0 +ℤ pos 300)) (unsigned_abs (shape.b0 +ℤ pos 300))
       (omega (arith, has.reached, column_below shape problem.boxes problem.gutters positions in_column, same_total problem shape positions same)) (omega arith) (omega arith);
 })
 
 -- the lesser of two bounds is one
-pub lesser_bound : (problem : Problem) (shape : Shape) (bound limit : ℕ) → IsInGrid problem.height shape → IsBound problem shape bound → IsOver problem shape limit → IsBound problem shape (min bound limit)
+pub lesser_bound : (problem : GridProblem) (shape : Shape) (bound limit : ℕ) → IsInGrid problem.height shape → IsBound problem shape bound → IsOver problem shape limit → IsBound problem shape (min bound limit)
 lesser_bound problem shape bound limit grid is over = record {
   over = λ slope offset score scored inside. omega (arith, is.over slope offset score scored inside, over slope offset score scored inside);
   single = λ single.
@@ -99,7 +99,7 @@ lesser_bound problem shape bound limit grid is over = record {
 }
 
 -- a shape of a small bound has no admitted key
-pub none_below : (problem : Problem) (shape : Shape) (bound limit : ℕ) → IsInGrid problem.height shape → IsOver problem shape bound → IsOver problem shape limit → min bound limit < 503316480 → HasNoPoint problem shape
+pub none_below : (problem : GridProblem) (shape : Shape) (bound limit : ℕ) → IsInGrid problem.height shape → IsOver problem shape bound → IsOver problem shape limit → min bound limit < 503316480 → HasNoPoint problem shape
 none_below problem shape bound limit grid over_bound over_limit small = λ key here lies.
     let inside = inside_of key problem shape grid.page here lies in
     let large : 503316480 ≤ key = omega (arith, here.has_key, here.admissible.enough) in

@@ -10,7 +10,7 @@ use Rattle.box_search.specs.declared.space.Shape.{Shape}
 use Rattle.line_quality.specs.Points.{middle_of, is_crossed, column_of}
 use Rattle.line_quality.specs.Scores.{weight_of, is_of, group_weight}
 use Rattle.line_search.specs.Shapes.{IsInside}
-use Rattle.line_search.specs.Bounds.{reach, all_cross, sure_column, is_surely, column_reach}
+use Rattle.line_search.specs.Bounds.{most_weight, all_cross, sure_column, is_surely, most_in_column}
 use Rattle.line_search.proofs.Heights.{weight_below, between}
 
 -- what all lines of a shape cross, each line crosses
@@ -102,11 +102,11 @@ surely_of shape slope offset inside gutters in_column None passes = absurd (let 
 surely_of shape slope offset inside gutters in_column (Some r) passes = (sure_column shape gutters (middle_of r), surely_each shape slope offset inside gutters in_column r passes)
 
 -- a group weighs at most what a sure column can weigh
-pub group_within : (shape : Shape) (boxes gutters : List Rect) (positions : List ℕ) (slope offset : ℤ) → IsInside slope offset shape → (in_column most : ℕ) → ((k : ℕ) → column_reach shape boxes gutters positions k ≤ most) → group_weight slope offset boxes gutters in_column positions ≤ most
+pub group_within : (shape : Shape) (boxes gutters : List Rect) (positions : List ℕ) (slope offset : ℤ) → IsInside slope offset shape → (in_column most : ℕ) → ((k : ℕ) → most_in_column shape boxes gutters positions k ≤ most) → group_weight slope offset boxes gutters in_column positions ≤ most
 group_within shape boxes gutters positions slope offset inside in_column most greatest =
     let p : ℕ → Bool = λ position. is_of slope offset gutters in_column (slice_get boxes position) in
     let f : ℕ → ℕ = λ position. weight_of slope offset (slice_get boxes position) in
-    let g : ℕ → ℕ = λ position. reach shape (slice_get boxes position) in
+    let g : ℕ → ℕ = λ position. most_weight shape (slice_get boxes position) in
     ⊎_elim
     (λ found.
     let surely = surely_of shape slope offset inside gutters in_column (slice_get boxes found.0) found.1 in

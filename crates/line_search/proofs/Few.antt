@@ -3,11 +3,12 @@ use Rattle.std.proofs.Common.{◌≡◌, ℕ, ◌+◌, ◌*◌, ◌<◌, ◌≤�
 use Rattle.std.specs.List.{filter, sum_by}
 use Rattle.std.proofs.lemmas.List.Sums.{sum_by-cons}
 use Rattle.layout_geom.specs.declared.rect.Rect.{Rect}
+use Rattle.box_search.specs.Problems.{of_numbers}
 use Rattle.box_search.specs.Search.{IsGreatestKey}
 use Rattle.line_quality.specs.Points.{deviation}
 use Rattle.line_quality.specs.Scores.{weight_of, is_of, group_weight}
-use Rattle.line_search.specs.Problem.{Problem, numbers_of, HasPointOfKey, IsAdmitted}
-use Rattle.line_search.specs.ProblemLaws.{of_numbers}
+use Rattle.line_search.specs.Problem.{GridProblem, grid_numbers, HasPointOfKey, IsGridKey}
+use Rattle.line_search.specs.ProblemLaws.{same_grid_problem}
 
 -- a box weighs 25 at most
 light : (slope offset : ℤ) (o : Option Rect) → weight_of slope offset o ≤ 25
@@ -25,7 +26,7 @@ light_together f each p (x ∷ xs) =
     let more : sum_by f (filter p (x ∷ xs)) ≤ 25 * (length xs + 1) = light_first f x (filter p xs) (length xs) (p x) (each x) (light_together f each p xs) in
     omega (arith, more)
 
-too_light : (problem : Problem) (key : ℕ) → length problem.alive < 3 → HasPointOfKey key problem → ⊥
+too_light : (problem : GridProblem) (key : ℕ) → length problem.alive < 3 → HasPointOfKey key problem → ⊥
 too_light problem key few point =
     let scored = point.admissible.scored in
     let most : group_weight point.slope point.offset problem.boxes problem.gutters scored.in_column problem.alive ≤ 25 * length problem.alive =
@@ -34,7 +35,7 @@ too_light problem key few point =
     omega (arith, few, most, scored.scored.reached, point.admissible.enough)
 
 -- no key is admitted, and 0 says so
-pub none_of_few : (problem : Problem) → length problem.alive < 3 → IsGreatestKey (IsAdmitted (numbers_of problem)) 0
+pub none_of_few : (problem : GridProblem) → length problem.alive < 3 → IsGreatestKey (IsGridKey (grid_numbers problem)) 0
 none_of_few problem few =
-    let none : (key : ℕ) → IsAdmitted (numbers_of problem) key → ⊥ = λ key admitted. too_light problem key few (of_numbers (HasPointOfKey key) problem admitted) in
+    let none : (key : ℕ) → IsGridKey (grid_numbers problem) key → ⊥ = λ key admitted. too_light problem key few (of_numbers grid_numbers same_grid_problem (HasPointOfKey key) problem admitted) in
     record { sound = inl refl; greatest = λ key admitted. absurd (none key admitted); none = λ _ key admitted. none key admitted }

@@ -17,13 +17,13 @@ use Rattle.line_quality.specs.Keys.{line_key}
 use Rattle.line_search.specs.declared.rows.Rows.{Rows}
 use Rattle.line_search.specs.declared.windows.Window.{Window}
 use Rattle.line_search.specs.Lines.{without}
-use Rattle.line_search.specs.Problem.{Problem, numbers_of, HasPointOfKey, IsAdmitted}
+use Rattle.line_search.specs.Problem.{GridProblem, grid_numbers, HasPointOfKey, IsGridKey}
 use Rattle.line_search.specs.GridLaws.{admitted_here, grid_positive}
-use Rattle.line_search.specs.Windows.{stands_in, standing, within, IsSearched, IsRound, AreRound}
+use Rattle.line_search.specs.Windows.{stands_in, standing, within, IsSearchedWindow, HasFeet, HaveFeet}
 use Rattle.line_search.proofs.Reaching.{filter_twice}
 use Rattle.line_search.proofs.Margins.{any_kept}
 use Rattle.line_search.proofs.Scored.{score_exists}
-use Rattle.line_search.proofs.Taking.{IsAnswer, IsAdmissibleIn, admits, same_number}
+use Rattle.line_search.proofs.Taking.{IsGridAnswer, IsAdmissibleIn, admits, same_number}
 
 -- what holds of each box holds of one that is read
 pub at_box : (P : Rect → Type 0) (boxes : List Rect) (position : ℕ) (r : Rect) → slice_get boxes position ≡ Some r → All P boxes → P r
@@ -36,20 +36,20 @@ has_weight : (a c w : ℕ) → (eqb a c && ltb 0 w) ≡ true → 0 < w
 has_weight a c w is = grind (arith, nat_tests)
 
 module _ (boxes gutters : List Rect) (rows : Rows) (slope offset : ℤ) (in_slopes : IsSlope slope) where
-  member_stands : IsRound boxes offset rows → (in_column position : ℕ) (o : Option Rect) → slice_get boxes position ≡ o → is_of slope offset gutters in_column o ≡ true → stands_in rows o ≡ true
+  member_stands : HasFeet boxes offset rows → (in_column position : ℕ) (o : Option Rect) → slice_get boxes position ≡ o → is_of slope offset gutters in_column o ≡ true → stands_in rows o ≡ true
   member_stands round in_column position (Some r) read is =
       at_box (λ (box : Rect). (s : ℤ) → IsSlope s → 0 < weight s offset box → stands_in rows (Some box) ≡ true) boxes position r read round slope in_slopes
       (has_weight (column_of slope offset gutters (middle_of r)) in_column (weight slope offset r) is)
   member_stands round in_column position None read is = absurd (let no : false ≡ true = is in cc)
 
   -- the boxes in the rows have the groups of all boxes
-  same_within : IsRound boxes offset rows → (in_column : ℕ) (alive : List ℕ) → group_of slope offset boxes gutters in_column (standing rows boxes alive) ≡ group_of slope offset boxes gutters in_column alive
+  same_within : HasFeet boxes offset rows → (in_column : ℕ) (alive : List ℕ) → group_of slope offset boxes gutters in_column (standing rows boxes alive) ≡ group_of slope offset boxes gutters in_column alive
   same_within round in_column alive =
       filter_twice (λ position. is_of slope offset gutters in_column (slice_get boxes position)) (λ position. stands_in rows (slice_get boxes position))
       (λ position is. member_stands round in_column position (slice_get boxes position) refl is) alive
 
   -- and so the score
-  scored_within : IsRound boxes offset rows → (alive : List ℕ) (score in_column : ℕ) → IsScore slope offset boxes gutters alive score in_column → IsScore slope offset boxes gutters (standing rows boxes alive) score in_column
+  scored_within : HasFeet boxes offset rows → (alive : List ℕ) (score in_column : ℕ) → IsScore slope offset boxes gutters alive score in_column → IsScore slope offset boxes gutters (standing rows boxes alive) score in_column
   scored_within round alive score in_column scored =
       let weigh : List ℕ → ℕ = λ xs. sum_by (λ (position : ℕ). weight_of slope offset (slice_get boxes position)) xs in
       let same : (k : ℕ) → group_weight slope offset boxes gutters k (standing rows boxes alive) ≡ group_weight slope offset boxes gutters k alive =
@@ -96,24 +96,24 @@ window_of P windows found = ⊎_elim
 better_key : (score more : ℕ) (slope offset : ℤ) → score ≤ more → line_key score slope offset ≤ line_key more slope offset
 better_key score more slope offset less = omega arith
 
-module _ (problem : Problem) (windows : List Window) (key : ℕ) (round : AreRound problem.boxes problem.height (map (λ (w : Window). w.rows) windows)) (searched : All (IsSearched problem) windows) (greatest : All (λ w. w.key ≤ key) windows) where
+module _ (problem : GridProblem) (windows : List Window) (key : ℕ) (round : HaveFeet problem.boxes problem.height (map (λ (w : Window). w.rows) windows)) (searched : All (IsSearchedWindow problem) windows) (greatest : All (λ w. w.key ≤ key) windows) where
   -- no key of the whole grid is greater
-  whole_greatest : (other : ℕ) → IsAdmitted (numbers_of problem) other → other ≤ key
+  whole_greatest : (other : ℕ) → IsGridKey (grid_numbers problem) other → other ≤ key
   whole_greatest other admitted =
-      let here : HasPointOfKey other problem = admitted_here problem (numbers_of problem) other refl admitted in
+      let here : HasPointOfKey other problem = admitted_here problem (grid_numbers problem) other refl admitted in
       let scored = here.admissible.scored in
-      let at = window_of (IsRound problem.boxes here.offset) windows (round here.offset scored.point.low scored.point.high) in
-      let part : Problem = within at.window.rows problem in
+      let at = window_of (HasFeet problem.boxes here.offset) windows (round here.offset scored.point.low scored.point.high) in
+      let part : GridProblem = within at.window.rows problem in
       let admissible : IsAdmissibleIn part here.slope here.offset here.score = record {
         scored = record { point = scored.point; in_column = scored.in_column; scored = scored_within problem.boxes problem.gutters at.window.rows here.slope here.offset scored.point.slope_in at.holds problem.alive here.score scored.in_column scored.scored };
         enough = here.admissible.enough;
       } in
-      let answer : IsSearched problem at.window = all_at (IsSearched problem) windows at.place at.window at.inside at.there searched in
+      let answer : IsSearchedWindow problem at.window = all_at (IsSearchedWindow problem) windows at.place at.window at.inside at.there searched in
       let low : at.window.key ≤ key = all_at (λ (w : Window). w.key ≤ key) windows at.place at.window at.inside at.there greatest in
       omega (arith, here.has_key, low, answer.greatest (line_key here.score here.slope here.offset) (admits part here.slope here.offset here.score admissible))
 
   -- the key of a window is admitted in the whole grid, where it is the greatest
-  whole_sound : (window : Window) → IsSearched problem window → window.key ≡ key → HasPointOfKey window.key (within window.rows problem) → IsAdmitted (numbers_of problem) key
+  whole_sound : (window : Window) → IsSearchedWindow problem window → window.key ≡ key → HasPointOfKey window.key (within window.rows problem) → IsGridKey (grid_numbers problem) key
   whole_sound window answer same here =
       let scored = here.admissible.scored in
       let all = score_exists here.slope here.offset problem.boxes problem.gutters problem.alive in
@@ -124,24 +124,24 @@ module _ (problem : Problem) (windows : List Window) (key : ℕ) (round : AreRou
         scored = record { point = scored.point; in_column = all.1; scored = all.2 };
         enough = omega (arith, more, here.admissible.enough);
       } in
-      let admitted : IsAdmitted (numbers_of problem) (line_key all.0 here.slope here.offset) = admits problem here.slope here.offset all.0 admissible in
+      let admitted : IsGridKey (grid_numbers problem) (line_key all.0 here.slope here.offset) = admits problem here.slope here.offset all.0 admissible in
       let is : line_key all.0 here.slope here.offset ≡ key = omega (arith, same, here.has_key, better_key here.score all.0 here.slope here.offset more, whole_greatest (line_key all.0 here.slope here.offset) admitted) in
-      subst (IsAdmitted (numbers_of problem)) is admitted
+      subst (IsGridKey (grid_numbers problem)) is admitted
 
   -- so the greatest of the keys of the windows is the answer
-  pub whole_answer : (key ≡ 0) ⊎ Any (λ w. w.key ≡ key) windows → IsAnswer problem key
+  pub whole_answer : (key ≡ 0) ⊎ Any (λ w. w.key ≡ key) windows → IsGridAnswer problem key
   whole_answer reached = record {
     sound = ⊎_elim
         (λ (none : key ≡ 0). inl none)
         (λ found.
-        let answer : IsSearched problem found.1 = all_at (IsSearched problem) windows found.0 found.1 found.2 found.3 searched in
+        let answer : IsSearchedWindow problem found.1 = all_at (IsSearchedWindow problem) windows found.0 found.1 found.2 found.3 searched in
         ⊎_elim
         (λ (none : found.1.key ≡ 0). inl (sym found.4 ∙ none))
-        (λ admitted. inr (whole_sound found.1 answer found.4 (admitted_here (within found.1.rows problem) (numbers_of (within found.1.rows problem)) found.1.key refl admitted)))
+        (λ admitted. inr (whole_sound found.1 answer found.4 (admitted_here (within found.1.rows problem) (grid_numbers (within found.1.rows problem)) found.1.key refl admitted)))
         answer.sound)
         reached;
     greatest = whole_greatest;
-    none = λ none other admitted. absurd (omega (arith, none, grid_positive (numbers_of problem) other admitted, whole_greatest other admitted));
+    none = λ none other admitted. absurd (omega (arith, none, grid_positive (grid_numbers problem) other admitted, whole_greatest other admitted));
   }
 
 some_or_none : (b : Bool) → (b ≡ true) ⊎ (b ≡ false)
@@ -160,24 +160,24 @@ no_member boxes rows members outside position stands = ⊎_elim
     (some_or_none (list_any (λ (member : ℕ). member == position) members))
 
 -- a window without a member has the answer that it had
-pub kept_window : (problem : Problem) (members : List ℕ) (window : Window) → All (λ member. stands_in window.rows (slice_get problem.boxes member) ≡ false) members → IsSearched problem window → IsSearched (record problem { alive = without members problem.alive }) window
+pub kept_window : (problem : GridProblem) (members : List ℕ) (window : Window) → All (λ member. stands_in window.rows (slice_get problem.boxes member) ≡ false) members → IsSearchedWindow problem window → IsSearchedWindow (record problem { alive = without members problem.alive }) window
 kept_window problem members window outside searched =
     let same : standing window.rows problem.boxes (without members problem.alive) ≡ standing window.rows problem.boxes problem.alive =
     filter_twice (λ position. stands_in window.rows (slice_get problem.boxes position)) (λ position. not (list_any (λ member. member == position) members))
     (no_member problem.boxes window.rows members outside) problem.alive in
-    subst (λ (alive : List ℕ). IsGreatestKey (IsAdmitted (numbers_of (record problem { alive = alive }))) window.key) (sym same) searched
+    subst (λ (alive : List ℕ). IsGreatestKey (IsGridKey (grid_numbers (record problem { alive = alive }))) window.key) (sym same) searched
 
 -- and so has each window without a member
-pub others_kept : (old new : Problem) (members items : List ℕ) (windows slice : List Window) → new ≡ record old { alive = without members old.alive } → items ≡ members → slice ≡ windows → All (IsSearched old) windows → All (λ window. All (λ member. stands_in window.rows (slice_get new.boxes member) ≡ false) items → IsSearched new window) slice
+pub others_kept : (old new : GridProblem) (members items : List ℕ) (windows slice : List Window) → new ≡ record old { alive = without members old.alive } → items ≡ members → slice ≡ windows → All (IsSearchedWindow old) windows → All (λ window. All (λ member. stands_in window.rows (slice_get new.boxes member) ≡ false) items → IsSearchedWindow new window) slice
 others_kept old new members items windows slice is same same_windows searched =
-    let kept : All (λ window. All (λ member. stands_in window.rows (slice_get old.boxes member) ≡ false) members → IsSearched (record old { alive = without members old.alive }) window) windows =
+    let kept : All (λ window. All (λ member. stands_in window.rows (slice_get old.boxes member) ≡ false) members → IsSearchedWindow (record old { alive = without members old.alive }) window) windows =
     λ k d inside outside. kept_window old members (get_or windows k d) outside (searched k d inside) in
-    subst (λ (p : Problem). All (λ window. All (λ member. stands_in window.rows (slice_get p.boxes member) ≡ false) items → IsSearched p window) slice) (sym is)
-    (subst (λ (ms : List ℕ). All (λ window. All (λ member. stands_in window.rows (slice_get old.boxes member) ≡ false) ms → IsSearched (record old { alive = without members old.alive }) window) slice) (sym same)
-    (subst (λ (ws : List Window). All (λ window. All (λ member. stands_in window.rows (slice_get old.boxes member) ≡ false) members → IsSearched (record old { alive = without members old.alive }) window) ws) (sym same_windows) kept))
+    subst (λ (p : GridProblem). All (λ window. All (λ member. stands_in window.rows (slice_get p.boxes member) ≡ false) items → IsSearchedWindow p window) slice) (sym is)
+    (subst (λ (ms : List ℕ). All (λ window. All (λ member. stands_in window.rows (slice_get old.boxes member) ≡ false) ms → IsSearchedWindow (record old { alive = without members old.alive }) window) slice) (sym same)
+    (subst (λ (ws : List Window). All (λ window. All (λ member. stands_in window.rows (slice_get old.boxes member) ≡ false) members → IsSearchedWindow (record old { alive = without members old.alive }) window) ws) (sym same_windows) kept))
 
 -- the answer, where the windows are read as a slice
-pub answer_of : (problem : Problem) (windows slice : List Window) (key : ℕ) → slice ≡ windows → AreRound problem.boxes problem.height (map (λ (w : Window). w.rows) windows) → All (IsSearched problem) windows → All (λ w. w.key ≤ key) slice → (key ≡ 0) ⊎ Any (λ w. w.key ≡ key) slice → IsAnswer problem key
+pub answer_of : (problem : GridProblem) (windows slice : List Window) (key : ℕ) → slice ≡ windows → HaveFeet problem.boxes problem.height (map (λ (w : Window). w.rows) windows) → All (IsSearchedWindow problem) windows → All (λ w. w.key ≤ key) slice → (key ≡ 0) ⊎ Any (λ w. w.key ≡ key) slice → IsGridAnswer problem key
 answer_of problem windows slice key same round searched greatest reached =
     whole_answer problem windows key round searched
     (subst (λ (ws : List Window). All (λ w. w.key ≤ key) ws) same greatest)
@@ -196,8 +196,8 @@ again_more windows more window all i d pushed inside is so_far =
     let next : map (λ (w : Window). w.rows) (take (i + 1) all) ≡ map (λ (w : Window). w.rows) (take i all) ++ (get_or all i d).rows ∷ [] = ap (map (λ (w : Window). w.rows)) (take_more all i d inside) ∙ map-append (λ (w : Window). w.rows) (take i all) (get_or all i d ∷ []) in
     cc (first, next, so_far, is)
 
-pub searched_more : (problem : Problem) (windows more : List Window) (window : Window) → more ≡ windows ++ window ∷ [] → All (IsSearched problem) windows → IsSearched problem window → All (IsSearched problem) more
-searched_more problem windows more window pushed so_far searched = subst (λ (ws : List Window). All (IsSearched problem) ws) (sym pushed) (All-push (IsSearched problem) windows window so_far searched)
+pub searched_more : (problem : GridProblem) (windows more : List Window) (window : Window) → more ≡ windows ++ window ∷ [] → All (IsSearchedWindow problem) windows → IsSearchedWindow problem window → All (IsSearchedWindow problem) more
+searched_more problem windows more window pushed so_far searched = subst (λ (ws : List Window). All (IsSearchedWindow problem) ws) (sym pushed) (All-push (IsSearchedWindow problem) windows window so_far searched)
 
 -- the greatest key, one window later
 pub greatest_more : (windows : List Window) (i : ℕ) (d : Window) (old new : ℕ) → i < length windows → new ≡ max (get_or windows i d).key old → All (λ w. w.key ≤ old) (take i windows) → All (λ w. w.key ≤ new) (take (i + 1) windows)

@@ -10,7 +10,7 @@ use Rattle.line_quality.specs.Scores.{weight_of}
 use Rattle.line_quality.specs.HeightLaws.{rise_grows}
 use Rattle.line_quality.specs.KeyLaws.{abs_parts}
 use Rattle.line_search.specs.Shapes.{IsInside}
-use Rattle.line_search.specs.Bounds.{lowest, highest, distance, reach}
+use Rattle.line_search.specs.Bounds.{lowest, highest, distance, most_weight}
 use borrow.Author.Differences.{up, down}
 
 pub int_gap_is : (a b : ℤ) → int_gap a b ≡ (up b + down a) - (up a + down b)
@@ -41,7 +41,7 @@ between shape slope offset inside x = (
   grows offset (shape.b1 -ℤ pos 1) (rise slope x) (rise (shape.a1 -ℤ pos 1) x) (before offset shape.b1 inside.to_offset) (rise_grows slope (shape.a1 -ℤ pos 1) x (before slope shape.a1 inside.to_slope)),
 )
 
-pub weight_below : (shape : Shape) (slope offset : ℤ) → IsInside slope offset shape → (o : Option Rect) → weight_of slope offset o ≤ reach shape o
+pub weight_below : (shape : Shape) (slope offset : ℤ) → IsInside slope offset shape → (o : Option Rect) → weight_of slope offset o ≤ most_weight shape o
 weight_below shape slope offset inside (Some r) =
     weights_fall (distance shape r) (deviation slope offset r)
     (gap_within (height_at shape.a0 shape.b0 (middle_of r)) (height_at slope offset (middle_of r)) (height_at (shape.a1 -ℤ pos 1) (shape.b1 -ℤ pos 1) (middle_of r)) r.y1
@@ -60,7 +60,7 @@ pub record HasCorners (shape part : Shape) : Type 0 where
   pub last : IsInside (part.a1 -ℤ pos 1) (part.b1 -ℤ pos 1) shape
 
 -- a box can weigh no more for the lines of a part
-pub reach_shrinks : (shape part : Shape) → HasCorners shape part → (o : Option Rect) → reach part o ≤ reach shape o
+pub reach_shrinks : (shape part : Shape) → HasCorners shape part → (o : Option Rect) → most_weight part o ≤ most_weight shape o
 reach_shrinks shape part corners (Some r) =
     weights_fall (distance shape r) (distance part r)
     (gap_shrinks (lowest shape (middle_of r)) (lowest part (middle_of r)) (highest shape (middle_of r)) (highest part (middle_of r)) r.y1

@@ -11,7 +11,7 @@ use Rattle.line_quality.specs.Points.{IsSlope, rise, deviation, weight, weight_a
 use Rattle.line_quality.specs.HeightLaws.{floor_parts, rise_grows}
 use Rattle.line_quality.specs.KeyLaws.{abs_parts}
 use Rattle.line_search.specs.declared.rows.Rows.{Rows}
-use Rattle.line_search.specs.Windows.{IsMargin, IsRound}
+use Rattle.line_search.specs.Windows.{IsMargin, HasFeet}
 use borrow.Author.Differences.{product_is}
 
 -- what weighs something is fewer than five rows away
@@ -52,12 +52,12 @@ any_kept P xs ys (k, x, inside, at, holds) = let there = Contains-append_left xs
 
 -- one more range of rows serves two margins more
 pub round_more : (boxes : List Rect) (margin first : ℕ) (rows : Rows) (all more : List Rows) → IsMargin boxes margin → rows.from ≡ first - (300 + margin) → rows.to ≡ first + 3 * margin - 300 → more ≡ all ++ rows ∷ []
-    → ((offset : ℤ) → negsuc 299 ≤ℤ offset → (offset +ℤ pos 300) <ℤ pos first → Any (IsRound boxes offset) all)
-    → (offset : ℤ) → negsuc 299 ≤ℤ offset → (offset +ℤ pos 300) <ℤ pos (first + 2 * margin) → Any (IsRound boxes offset) more
+    → ((offset : ℤ) → negsuc 299 ≤ℤ offset → (offset +ℤ pos 300) <ℤ pos first → Any (HasFeet boxes offset) all)
+    → (offset : ℤ) → negsuc 299 ≤ℤ offset → (offset +ℤ pos 300) <ℤ pos (first + 2 * margin) → Any (HasFeet boxes offset) more
 round_more boxes margin first rows all more is_margin is_from is_to pushed so_far offset low below =
     by_lt_z (offset +ℤ pos 300) (pos first)
-    (λ before. subst (λ (xs : List Rows). Any (IsRound boxes offset) xs) (sym pushed) (any_kept (IsRound boxes offset) all (rows ∷ []) (so_far offset low before)))
-    (λ after. subst (λ (xs : List Rows). Any (IsRound boxes offset) xs) (sym pushed) (Any-push (IsRound boxes offset) all rows (λ k d inside slope in_slopes some.
+    (λ before. subst (λ (xs : List Rows). Any (HasFeet boxes offset) xs) (sym pushed) (any_kept (HasFeet boxes offset) all (rows ∷ []) (so_far offset low before)))
+    (λ after. subst (λ (xs : List Rows). Any (HasFeet boxes offset) xs) (sym pushed) (Any-push (HasFeet boxes offset) all rows (λ k d inside slope in_slopes some.
     let r : Rect = get_or boxes k d in
     let stands = in_rows first margin rows.from rows.to r.y1 offset is_from is_to after below (is_margin k d inside slope offset in_slopes some) in
     both_tests rows.from rows.to r.y1 stands.0 stands.1)))

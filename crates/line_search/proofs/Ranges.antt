@@ -113,9 +113,9 @@ slopes_cut shape grid middle is =
     let e : middle ≡ half shape.a0 shape.a1 = is ∙ rw (in_16 shape.a0 (omega (arith, ints, grid.from_slope)) (omega (arith, ints, grid.some_slope, grid.to_slope)), in_16 shape.a1 (omega (arith, ints, grid.from_slope, grid.some_slope)) (omega (arith, ints, grid.to_slope))) refl in
     in_32 middle (omega (arith, ints, e, half_parts (shape.a0 +ℤ shape.a1), grid.from_slope, grid.some_slope)) (omega (arith, ints, e, half_parts (shape.a0 +ℤ shape.a1), grid.some_slope, grid.to_slope)) ∙ e
 
-pub foot_is : (height page : ℕ) → height ≤ 8192 → height ≡ page → shape_with (negsuc 31) (pos 33) (negsuc 299) (to_z w32 (of_z w32 (to_z w32 height +ℤ pos 301))) (pos 0) (pos 1) ≡ whole_grid page
+pub foot_is : (height page : ℕ) → height ≤ 8192 → height ≡ page → shape_with (negsuc 31) (pos 33) (negsuc 299) (to_z w32 (of_z w32 (to_z w32 (of_z w32 (to_z w32 height +ℤ pos 300)) +ℤ pos 1))) (pos 0) (pos 1) ≡ whole_grid page
 foot_is height page high is =
-    let foot : to_z w32 (of_z w32 (to_z w32 height +ℤ pos 301)) ≡ pos (page + 301) = omega (arith, ints) in
+    let foot : to_z w32 (of_z w32 (to_z w32 (of_z w32 (to_z w32 height +ℤ pos 300)) +ℤ pos 1)) ≡ pos (page + 300 + 1) = omega (arith, ints) in
     rw foot refl
 
 pub lowest_is : (shape : Shape) → IsInGrid 8192 shape → (x : ℕ) → height_at (to_z w8 (of_z w8 (to_z w32 (of_z w32 shape.a0)))) (to_z w16 (of_z w16 (to_z w32 (of_z w32 shape.b0)))) x ≡ height_at shape.a0 shape.b0 x

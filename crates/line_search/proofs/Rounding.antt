@@ -92,7 +92,3 @@ round_all boxes (p ∷ positions) outer all = All-cons (λ (position : ℕ). IfS
 pub box_in : (boxes : List Rect) (positions : List ℕ) (i : ℕ) (box outer : Rect) → i < length positions → slice_get boxes (get_or positions i 0) ≡ Some box → IsRound boxes positions outer → Encloses outer box
 box_in boxes positions i box outer within there round =
     some_at boxes (get_or positions i 0) box (λ (b : Rect). Encloses outer b) there (All-get_or (λ (position : ℕ). IfSome (slice_get boxes position) (λ (b : Rect). Encloses outer b)) positions i 0 within round)
-
-pub all_kept : (p : ℤ → ℤ → ℕ → Bool) (s s' b b' : ℤ) → s' ≡ s → b' ≡ b → (xs items : List ℕ) (n : ℕ) → length xs ≤ n → items ≡ filter (p s' b') (take n xs) → items ≡ filter (p s b) xs
-all_kept p s s' b b' same_s same_b xs items n long is =
-    is ∙ ap (filter (p s' b')) (take_all n xs long) ∙ ap (λ (z : ℤ). filter (p z b') xs) same_s ∙ ap (λ (z : ℤ). filter (p s z) xs) same_b

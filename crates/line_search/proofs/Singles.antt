@@ -11,7 +11,7 @@ use Rattle.line_quality.specs.Points.{height_at, middle_of, weight_at, weight, c
 use Rattle.line_quality.specs.Scores.{weight_of, is_of, group_weight, IsScore}
 use Rattle.line_quality.specs.KeyLaws.{abs_parts}
 use Rattle.line_search.specs.Shapes.{IsSingle}
-use Rattle.line_search.specs.Bounds.{reach, sure_column, is_surely, column_reach, nearest_slope, HasMost}
+use Rattle.line_search.specs.Bounds.{most_weight, sure_column, is_surely, most_in_column, nearest_slope, HasMost}
 use Rattle.line_search.proofs.Heights.{int_gap_is}
 
 one_less : (a b : ℤ) → b ≡ a +ℤ pos 1 → b -ℤ pos 1 ≡ a
@@ -23,7 +23,7 @@ gap_single h y = omega (arith, ints, int_gap_is (pos y) h, int_gap_is h (pos y),
 pub single_nearest : (shape : Shape) → IsSingle shape → nearest_slope shape ≡ shape.a0
 single_nearest shape single = omega (arith, ints, clamps, single.0)
 
-single_reach : (shape : Shape) → IsSingle shape → (o : Option Rect) → reach shape o ≡ weight_of shape.a0 shape.b0 o
+single_reach : (shape : Shape) → IsSingle shape → (o : Option Rect) → most_weight shape o ≡ weight_of shape.a0 shape.b0 o
 single_reach shape single (Some r) =
     rw (one_less shape.a0 shape.a1 single.0, one_less shape.b0 shape.b1 single.1) (ap weight_at (gap_single (height_at shape.a0 shape.b0 (middle_of r)) r.y1))
 single_reach shape single None = refl
@@ -47,17 +47,17 @@ sum_same f g same xs = omega (arith, sum_by-le-sum_by f g xs (λ x. omega (arith
 both : (c k w : ℕ) → cond (eqb c k) w 0 ≡ cond (eqb c k && ltb 0 w) w 0
 both c k w = grind (arith, nat_tests)
 
-each_adds : (shape : Shape) → IsSingle shape → (gutters : List Rect) (k : ℕ) (o : Option Rect) → cond (is_surely shape gutters k o) (reach shape o) 0 ≡ cond (is_of shape.a0 shape.b0 gutters k o) (weight_of shape.a0 shape.b0 o) 0
+each_adds : (shape : Shape) → IsSingle shape → (gutters : List Rect) (k : ℕ) (o : Option Rect) → cond (is_surely shape gutters k o) (most_weight shape o) 0 ≡ cond (is_of shape.a0 shape.b0 gutters k o) (weight_of shape.a0 shape.b0 o) 0
 each_adds shape single gutters k (Some r) =
-    ap (λ (n : ℕ). cond (eqb n k) (reach shape (Some r)) 0) (single_column shape single gutters (middle_of r))
+    ap (λ (n : ℕ). cond (eqb n k) (most_weight shape (Some r)) 0) (single_column shape single gutters (middle_of r))
     ∙ ap (λ (w : ℕ). cond (eqb (column_of shape.a0 shape.b0 gutters (middle_of r)) k) w 0) (single_reach shape single (Some r))
     ∙ both (column_of shape.a0 shape.b0 gutters (middle_of r)) k (weight shape.a0 shape.b0 r)
 each_adds shape single gutters k None = refl
 
-single_group : (shape : Shape) → IsSingle shape → (boxes gutters : List Rect) (positions : List ℕ) (k : ℕ) → column_reach shape boxes gutters positions k ≡ group_weight shape.a0 shape.b0 boxes gutters k positions
+single_group : (shape : Shape) → IsSingle shape → (boxes gutters : List Rect) (positions : List ℕ) (k : ℕ) → most_in_column shape boxes gutters positions k ≡ group_weight shape.a0 shape.b0 boxes gutters k positions
 single_group shape single boxes gutters positions k =
     let p : ℕ → Bool = λ x. is_surely shape gutters k (slice_get boxes x) in
-    let f : ℕ → ℕ = λ x. reach shape (slice_get boxes x) in
+    let f : ℕ → ℕ = λ x. most_weight shape (slice_get boxes x) in
     let q : ℕ → Bool = λ x. is_of shape.a0 shape.b0 gutters k (slice_get boxes x) in
     let g : ℕ → ℕ = λ x. weight_of shape.a0 shape.b0 (slice_get boxes x) in
     sum_kept p f positions
@@ -67,7 +67,7 @@ single_group shape single boxes gutters positions k =
 -- so the greatest sum of a column is the score
 pub single_score : (shape : Shape) → IsSingle shape → (boxes gutters : List Rect) (positions : List ℕ) (most in_column : ℕ) → HasMost shape boxes gutters positions most in_column → IsScore shape.a0 shape.b0 boxes gutters positions most in_column
 single_score shape single boxes gutters positions most in_column is =
-    let same : (k : ℕ) → column_reach shape boxes gutters positions k ≡ group_weight shape.a0 shape.b0 boxes gutters k positions = λ k. single_group shape single boxes gutters positions k in
+    let same : (k : ℕ) → most_in_column shape boxes gutters positions k ≡ group_weight shape.a0 shape.b0 boxes gutters k positions = λ k. single_group shape single boxes gutters positions k in
     record {
       reached = sym (same in_column) ∙ is.reached;
       greatest = λ other. omega (arith, same other, is.greatest other);

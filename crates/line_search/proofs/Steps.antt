@@ -6,14 +6,15 @@ use Rattle.std.proofs.lemmas.List.Elements.{All-nil, All-cons}
 use Rattle.std.specs.Option.{option_to_list}
 use Rattle.box_search.specs.declared.space.Shape.{Shape}
 use Rattle.box_search.specs.declared.space.Node.{Node}
+use Rattle.box_search.specs.Problems.{on_numbers, of_numbers}
 use Rattle.box_search.specs.Search.{IsRoot, Settles, Splits}
 use Rattle.box_search.specs.Shapes.{size, range_length, at_least_zero}
 use Rattle.line_quality.specs.Keys.{line_key}
 use Rattle.line_search.specs.declared.span.Span.{Span}
-use Rattle.line_search.specs.Problem.{Problem, numbers_of, HasScore, HasPointOfKey, IsAdmitted}
-use Rattle.line_search.specs.ProblemLaws.{on_numbers, of_numbers}
-use Rattle.line_search.specs.Shapes.{IsInside, LiesInShape, IsInGrid, IsSingle, whole_grid}
-use Rattle.line_search.specs.Bounds.{IsOver, HasReaching, IsNodeIn, FitsGrid}
+use Rattle.line_search.specs.Problem.{GridProblem, grid_numbers, HasScore, HasPointOfKey, IsGridKey}
+use Rattle.line_search.specs.ProblemLaws.{same_grid_problem}
+use Rattle.line_search.specs.Shapes.{IsInside, PointLiesIn, IsInGrid, IsSingle, whole_grid}
+use Rattle.line_search.specs.Bounds.{IsOver, HasWeighing, IsGridNode, FitsGrid}
 use Rattle.line_search.specs.Parts.{half, AreHalves, HasNoPoint, IsGridSplit, IsPointAdmissible}
 use Rattle.line_search.specs.GridLaws.{admitted_here, offset_in}
 use Rattle.line_search.proofs.Heights.{HasCorners}
@@ -25,10 +26,10 @@ use borrow.Author.Differences.{up, down}
 abbrev GridNode : Type 0
 GridNode = Node Span
 
-fits_here : (problem : Problem) (node : GridNode) → FitsGrid (numbers_of problem) node → IsNodeIn node problem
-fits_here problem node fits = of_numbers (IsNodeIn node) problem fits
+fits_here : (problem : GridProblem) (node : GridNode) → FitsGrid (grid_numbers problem) node → IsGridNode node problem
+fits_here problem node fits = of_numbers grid_numbers same_grid_problem (IsGridNode node) problem fits
 
-lies : (problem : Problem) (shape : Shape) (slope offset : ℤ) (score key : ℕ) → problem.height ≤ 8192 → HasScore problem slope offset score → line_key score slope offset ≡ key → IsInside slope offset shape → LiesInShape key shape
+lies : (problem : GridProblem) (shape : Shape) (slope offset : ℤ) (score key : ℕ) → problem.height ≤ 8192 → HasScore problem slope offset score → line_key score slope offset ≡ key → IsInside slope offset shape → PointLiesIn key shape
 lies problem shape slope offset score key high scored is inside = record {
   score = score;
   slope = slope;
@@ -39,11 +40,11 @@ lies problem shape slope offset score key high scored is inside = record {
   inside = inside;
 }
 
-pub root_is : (problem : Problem) (node : GridNode) → node.shape ≡ whole_grid problem.height → problem.height ≤ 8192 → IsNodeIn node problem → IsRoot (IsAdmitted (numbers_of problem)) LiesInShape (FitsGrid (numbers_of problem)) node
+pub root_is : (problem : GridProblem) (node : GridNode) → node.shape ≡ whole_grid problem.height → problem.height ≤ 8192 → IsGridNode node problem → IsRoot (IsGridKey (grid_numbers problem)) PointLiesIn (FitsGrid (grid_numbers problem)) node
 root_is problem node whole high fit = record {
-  fitting = on_numbers (IsNodeIn node) problem fit;
+  fitting = on_numbers grid_numbers (IsGridNode node) problem fit;
   covering = λ key admitted.
-      let found = admitted_here problem (numbers_of problem) key refl admitted in
+      let found = admitted_here problem (grid_numbers problem) key refl admitted in
       let point = found.admissible.scored.point in
       lies problem node.shape found.slope found.offset found.score key high found.admissible.scored found.has_key (rw whole (record {
         from_slope = point.slope_in.low;
@@ -59,12 +60,12 @@ enough score slope offset key is large = omega arith
 few : (score : ℕ) (slope offset : ℤ) (key : ℕ) → line_key score slope offset ≡ key → key < 503316480 → 60 ≤ score → ⊥
 few score slope offset key is small some = omega arith
 
-pub settles_is : (problem : Problem) (node : GridNode) → FitsGrid (numbers_of problem) node → IsSingle node.shape → 503316480 ≤ node.bound → Settles (IsAdmitted (numbers_of problem)) LiesInShape (FitsGrid (numbers_of problem)) node node.bound
+pub settles_is : (problem : GridProblem) (node : GridNode) → FitsGrid (grid_numbers problem) node → IsSingle node.shape → 503316480 ≤ node.bound → Settles (IsGridKey (grid_numbers problem)) PointLiesIn (FitsGrid (grid_numbers problem)) node node.bound
 settles_is problem node fits single large =
     let at = fits_here problem node fits in
     let key = at.bounded.single single in
     record {
-      admitted = on_numbers (HasPointOfKey node.bound) problem (record {
+      admitted = on_numbers grid_numbers (HasPointOfKey node.bound) problem (record {
         slope = node.shape.a0;
         offset = node.shape.b0;
         score = key.0;
@@ -75,27 +76,27 @@ settles_is problem node fits single large =
       is_bound = refl;
     }
 
-pub settled_score : (problem : Problem) (node : GridNode) → FitsGrid (numbers_of problem) node → IsSingle node.shape → 503316480 ≤ node.bound → (score : ℕ) × IsPointAdmissible problem node.shape score
+pub settled_score : (problem : GridProblem) (node : GridNode) → FitsGrid (grid_numbers problem) node → IsSingle node.shape → 503316480 ≤ node.bound → (score : ℕ) × IsPointAdmissible problem node.shape score
 settled_score problem node fits single large =
     let at = fits_here problem node fits in
     let key = at.bounded.single single in
     (key.0, record { scored = key.1; enough = enough key.0 node.shape.a0 node.shape.b0 node.bound key.2 large })
 
-pub no_score : (problem : Problem) (node : GridNode) → FitsGrid (numbers_of problem) node → node.bound < 503316480 → (score : ℕ) → IsPointAdmissible problem node.shape score → ⊥
+pub no_score : (problem : GridProblem) (node : GridNode) → FitsGrid (grid_numbers problem) node → node.bound < 503316480 → (score : ℕ) → IsPointAdmissible problem node.shape score → ⊥
 no_score problem node fits small score point =
     let at = fits_here problem node fits in
     let under = at.bounded.over node.shape.a0 node.shape.b0 score point.scored (first_inside problem.height node.shape at.in_grid) in
     few score node.shape.a0 node.shape.b0 (line_key score node.shape.a0 node.shape.b0) refl (omega (arith, under)) point.enough
 
-pub nothing_is : (problem : Problem) (node : GridNode) → FitsGrid (numbers_of problem) node → node.bound < 503316480 → Splits (IsAdmitted (numbers_of problem)) LiesInShape (FitsGrid (numbers_of problem)) node []
+pub nothing_is : (problem : GridProblem) (node : GridNode) → FitsGrid (grid_numbers problem) node → node.bound < 503316480 → Splits (IsGridKey (grid_numbers problem)) PointLiesIn (FitsGrid (grid_numbers problem)) node []
 nothing_is problem node fits small =
     let at = fits_here problem node fits in
     record {
       few = omega arith;
-      fitting = All-nil (FitsGrid (numbers_of problem));
+      fitting = All-nil (FitsGrid (grid_numbers problem));
       smaller = All-nil (λ (part : GridNode). size part.shape < size node.shape);
       bounded = All-nil (λ (part : GridNode). part.bound ≤ node.bound);
-      covering = λ key admitted inside. absurd (none_below problem node.shape node.bound node.bound at.in_grid at.bounded.over at.bounded.over (omega arith) key (admitted_here problem (numbers_of problem) key refl admitted) inside);
+      covering = λ key admitted inside. absurd (none_below problem node.shape node.bound node.bound at.in_grid at.bounded.over at.bounded.over (omega arith) key (admitted_here problem (grid_numbers problem) key refl admitted) inside);
     }
 
 zero_parts : (z : ℤ) → at_least_zero z ≡ up z - down z
@@ -200,33 +201,33 @@ inside_half shape lower upper (inr (long, is_lower, is_upper)) slope offset with
     (λ before. inl (rw is_lower (record { from_slope = within.from_slope; to_slope = within.to_slope; from_offset = within.from_offset; to_offset = before })))
     (λ after. inr (rw is_upper (record { from_slope = within.from_slope; to_slope = within.to_slope; from_offset = after; to_offset = within.to_offset })))
 
-lies_half : (shape lower upper : Shape) → AreHalves shape lower upper → (key : ℕ) → LiesInShape key shape → LiesInShape key lower ⊎ LiesInShape key upper
+lies_half : (shape lower upper : Shape) → AreHalves shape lower upper → (key : ℕ) → PointLiesIn key shape → PointLiesIn key lower ⊎ PointLiesIn key upper
 lies_half shape lower upper halves key at = ⊎_elim
     (λ inside. inl (record { score = at.score; slope = at.slope; offset = at.offset; slope_in = at.slope_in; offset_in = at.offset_in; has_key = at.has_key; inside = inside }))
     (λ inside. inr (record { score = at.score; slope = at.slope; offset = at.offset; slope_in = at.slope_in; offset_in = at.offset_in; has_key = at.has_key; inside = inside }))
     (inside_half shape lower upper halves at.slope at.offset at.inside)
 
 -- what a node hands on to a part
-pub record IsHandedOn (problem : Problem) (node : GridNode) (part : Shape) : Type 0 where
+pub record IsHandedOn (problem : GridProblem) (node : GridNode) (part : Shape) : Type 0 where
   pub in_grid : IsInGrid problem.height part
   pub over : IsOver problem part node.bound
-  pub reaching : HasReaching problem part node.work
+  pub weighing : HasWeighing problem part node.work
 
-handed : (problem : Problem) (node : GridNode) (part : Shape) → IsNodeIn node problem → IsPartOf problem.height node.shape part → IsHandedOn problem node part
+handed : (problem : GridProblem) (node : GridNode) (part : Shape) → IsGridNode node problem → IsPartOf problem.height node.shape part → IsHandedOn problem node part
 handed problem node part fit is = record {
   in_grid = is.in_grid;
   over = λ slope offset score scored inside. fit.bounded.over slope offset score scored (is.inside slope offset inside);
-  reaching = part_reaching problem node.shape part (corners_of problem.height node.shape part is) node.work fit.near;
+  weighing = part_reaching problem node.shape part (corners_of problem.height node.shape part is) node.work fit.near;
 }
 
-pub handed_on : (problem : Problem) (node : GridNode) (lower upper : Shape) → FitsGrid (numbers_of problem) node → AreHalves node.shape lower upper → IsHandedOn problem node lower × IsHandedOn problem node upper
+pub handed_on : (problem : GridProblem) (node : GridNode) (lower upper : Shape) → FitsGrid (grid_numbers problem) node → AreHalves node.shape lower upper → IsHandedOn problem node lower × IsHandedOn problem node upper
 handed_on problem node lower upper fits halves =
     let fit = fits_here problem node fits in
     let parts = halves_are problem.height node.shape lower upper fit.in_grid halves in
     (handed problem node lower fit parts.0, handed problem node upper fit parts.1)
 
 -- a node keeps the lesser of its bound and another one
-pub limited : (problem : Problem) (node : GridNode) (shape : Shape) (limit bound : ℕ) → IsNodeIn node problem → node.shape ≡ shape → IsOver problem shape limit → bound ≡ min node.bound limit → IsNodeIn (record { shape = node.shape; bound = bound; work = node.work }) problem
+pub limited : (problem : GridProblem) (node : GridNode) (shape : Shape) (limit bound : ℕ) → IsGridNode node problem → node.shape ≡ shape → IsOver problem shape limit → bound ≡ min node.bound limit → IsGridNode (record { shape = node.shape; bound = bound; work = node.work }) problem
 limited problem node shape limit bound fit same over is = record {
   in_grid = fit.in_grid;
   bounded = rw is (lesser_bound problem node.shape node.bound limit fit.in_grid fit.bounded (subst (λ (s : Shape). IsOver problem s limit) (sym same) over));
@@ -234,14 +235,14 @@ limited problem node shape limit bound fit same over is = record {
 }
 
 -- and has no admissible point where that is small
-pub too_low : (problem : Problem) (node : GridNode) (shape : Shape) (limit bound : ℕ) → IsNodeIn node problem → node.shape ≡ shape → IsOver problem shape limit → bound ≡ min node.bound limit → bound < 503316480 → HasNoPoint problem shape
+pub too_low : (problem : GridProblem) (node : GridNode) (shape : Shape) (limit bound : ℕ) → IsGridNode node problem → node.shape ≡ shape → IsOver problem shape limit → bound ≡ min node.bound limit → bound < 503316480 → HasNoPoint problem shape
 too_low problem node shape limit bound fit same over is small =
     subst (λ (s : Shape). HasNoPoint problem s) same
     (none_below problem node.shape node.bound limit fit.in_grid fit.bounded.over (subst (λ (s : Shape). IsOver problem s limit) (sym same) over) (omega (arith, is, small)))
 
 -- what `part` gives
-pub record IsKept (problem : Problem) (shape : Shape) (limit : ℕ) (part : Option GridNode) : Type 0 where
-  pub fitting : IfSome part (λ node. IsNodeIn node problem)
+pub record IsKeptHalf (problem : GridProblem) (shape : Shape) (limit : ℕ) (part : Option GridNode) : Type 0 where
+  pub fitting : IfSome part (λ node. IsGridNode node problem)
   pub shaped : IfSome part (λ node. node.shape ≡ shape)
   pub bound : IfSome part (λ node. node.bound ≤ limit)
   pub none : IfNone part (HasNoPoint problem shape)
@@ -276,25 +277,25 @@ none_then : (P Q : Type 0) (p : Option GridNode) → IfNone p P → (P → Q) �
 none_then P Q (Some a) h f = tt
 none_then P Q None h f = f h
 
-pub splits_is : (problem : Problem) (node : GridNode) (lower upper : Shape) (p q : Option GridNode) → FitsGrid (numbers_of problem) node → AreHalves node.shape lower upper → IsKept problem lower node.bound p → IsKept problem upper node.bound q → Splits (IsAdmitted (numbers_of problem)) LiesInShape (FitsGrid (numbers_of problem)) node (option_to_list p ++ option_to_list q)
+pub splits_is : (problem : GridProblem) (node : GridNode) (lower upper : Shape) (p q : Option GridNode) → FitsGrid (grid_numbers problem) node → AreHalves node.shape lower upper → IsKeptHalf problem lower node.bound p → IsKeptHalf problem upper node.bound q → Splits (IsGridKey (grid_numbers problem)) PointLiesIn (FitsGrid (grid_numbers problem)) node (option_to_list p ++ option_to_list q)
 splits_is problem node lower upper p q fits halves kept_lower kept_upper =
     let at = fits_here problem node fits in
     let parts = halves_are problem.height node.shape lower upper at.in_grid halves in
-    let Fits : GridNode → Type 0 = λ part. IsNodeIn part problem in
-    let Within : GridNode → Type 0 = λ part. FitsGrid (numbers_of problem) part in
+    let Fits : GridNode → Type 0 = λ part. IsGridNode part problem in
+    let Within : GridNode → Type 0 = λ part. FitsGrid (grid_numbers problem) part in
     let IsLower : GridNode → Type 0 = λ part. part.shape ≡ lower in
     let IsUpper : GridNode → Type 0 = λ part. part.shape ≡ upper in
     let Smaller : GridNode → Type 0 = λ part. size part.shape < size node.shape in
     record {
       few = omega (arith, at_most_two p q);
-      fitting = all_two Within p q (some_then Fits Within p kept_lower.fitting (λ part h. on_numbers (IsNodeIn part) problem h)) (some_then Fits Within q kept_upper.fitting (λ part h. on_numbers (IsNodeIn part) problem h));
+      fitting = all_two Within p q (some_then Fits Within p kept_lower.fitting (λ part h. on_numbers grid_numbers (IsGridNode part) problem h)) (some_then Fits Within q kept_upper.fitting (λ part h. on_numbers grid_numbers (IsGridNode part) problem h));
       smaller = all_two Smaller p q (some_then IsLower Smaller p kept_lower.shaped (λ part h. rw h parts.0.smaller)) (some_then IsUpper Smaller q kept_upper.shaped (λ part h. rw h parts.1.smaller));
       bounded = all_two (λ (part : GridNode). part.bound ≤ node.bound) p q kept_lower.bound kept_upper.bound;
       covering = λ key admitted inside.
-          let found = admitted_here problem (numbers_of problem) key refl admitted in
-          covers (LiesInShape key) lower upper p q kept_lower.shaped kept_upper.shaped
-          (none_then _ (LiesInShape key lower → ⊥) p kept_lower.none (λ h. h key found))
-          (none_then _ (LiesInShape key upper → ⊥) q kept_upper.none (λ h. h key found))
+          let found = admitted_here problem (grid_numbers problem) key refl admitted in
+          covers (PointLiesIn key) lower upper p q kept_lower.shaped kept_upper.shaped
+          (none_then _ (PointLiesIn key lower → ⊥) p kept_lower.none (λ h. h key found))
+          (none_then _ (PointLiesIn key upper → ⊥) q kept_upper.none (λ h. h key found))
           (lies_half node.shape lower upper halves key inside);
     }
 
@@ -308,7 +309,7 @@ left_out : (P : Type 0) (p : Option GridNode) → IfNone p P → is_some p ≡ f
 left_out P (Some a) h e = absurd (let no : true ≡ false = e in cc)
 left_out P None h e = h
 
-pub cut_is : (problem : Problem) (node : GridNode) (lower upper : Shape) (p q : Option GridNode) → AreHalves node.shape lower upper → IsKept problem lower node.bound p → IsKept problem upper node.bound q → IsGridSplit problem node.shape (option_to_list p ++ option_to_list q)
+pub cut_is : (problem : GridProblem) (node : GridNode) (lower upper : Shape) (p q : Option GridNode) → AreHalves node.shape lower upper → IsKeptHalf problem lower node.bound p → IsKeptHalf problem upper node.bound q → IsGridSplit problem node.shape (option_to_list p ++ option_to_list q)
 cut_is problem node lower upper p q halves kept_lower kept_upper = record {
   lower = lower;
   upper = upper;

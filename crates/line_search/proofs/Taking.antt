@@ -8,35 +8,33 @@ use Rattle.std.proofs.lemmas.List.Folds.{list_any-from_Any}
 use Rattle.std.proofs.lemmas.List.Filters.{length-filter_both}
 use Rattle.std.specs.List.{filter, sum_by, list_any}
 use Rattle.layout_geom.specs.declared.rect.Rect.{Rect}
+use Rattle.box_search.specs.Problems.{on_numbers}
 use Rattle.box_search.specs.Search.{IsGreatestKey}
 use Rattle.line_quality.specs.Points.{IsSlope, IsOffset}
 use Rattle.line_quality.specs.Scores.{IsScore, group_of, is_of, weight_of}
 use Rattle.line_quality.specs.ScoreLaws.{same_score}
 use Rattle.line_quality.specs.Keys.{line_key, IsLineKey}
 use Rattle.line_search.specs.declared.line.Line.{Line}
-use Rattle.line_search.specs.Lines.{IsPoint, IsAdmissible, IsBestLine, IsLeastRound, HasNoLine, IsLineList, without}
-use Rattle.line_search.specs.Problem.{Problem, numbers_of, HasPointOfKey, IsAdmitted, IsWithinLimits}
-use Rattle.line_search.specs.ProblemLaws.{on_numbers}
+use Rattle.line_search.specs.declared.members.Winner.{Winner}
+use Rattle.line_search.specs.declared.members.Division.{Division}
+use Rattle.line_search.specs.Lines.{IsPoint, IsAdmissiblePoint, IsBestLine, IsLeastRound, HasNoLine, IsLineList, without}
+use Rattle.line_search.specs.Problem.{GridProblem, grid_numbers, HasPointOfKey, IsGridKey, IsWithinLimits}
+use Rattle.line_search.specs.Taken.{IsTaken}
 use Rattle.line_search.specs.GridLaws.{admitted_here, offset_in}
 
 -- the key is the answer for the problem
-abbrev pub IsAnswer : Problem → ℕ → Type 0
-IsAnswer problem key = IsGreatestKey (IsAdmitted (numbers_of problem)) key
+abbrev pub IsGridAnswer : GridProblem → ℕ → Type 0
+IsGridAnswer problem key = IsGreatestKey (IsGridKey (grid_numbers problem)) key
 
 -- the admissible points of the problem, its best line, and that it has none
-abbrev pub IsAdmissibleIn : Problem → ℤ → ℤ → ℕ → Type 0
-IsAdmissibleIn problem slope offset score = IsAdmissible problem.boxes problem.gutters problem.height problem.alive slope offset score
+abbrev pub IsAdmissibleIn : GridProblem → ℤ → ℤ → ℕ → Type 0
+IsAdmissibleIn problem slope offset score = IsAdmissiblePoint problem.boxes problem.gutters problem.height problem.alive slope offset score
 
-abbrev pub IsBestIn : Problem → Line → Type 0
+abbrev pub IsBestIn : GridProblem → Line → Type 0
 IsBestIn problem line = IsBestLine problem.boxes problem.gutters problem.height problem.alive line
 
-abbrev pub HasNoLineIn : Problem → Type 0
+abbrev pub HasNoLineIn : GridProblem → Type 0
 HasNoLineIn problem = HasNoLine problem.boxes problem.gutters problem.height problem.alive
-
-pub record IsTaken (problem : Problem) (slope offset : ℤ) (score in_column : ℕ) (members others : List ℕ) : Type 0 where
-  pub scored : IsScore slope offset problem.boxes problem.gutters problem.alive score in_column
-  pub members_are : members ≡ group_of slope offset problem.boxes problem.gutters in_column problem.alive
-  pub others_are : others ≡ filter (λ position. not (is_of slope offset problem.gutters in_column (slice_get problem.boxes position))) problem.alive
 
 -- the slope and the offset are those that the key stands for
 abbrev pub Decodes : ℕ → ℤ → ℤ → Type 0
@@ -47,13 +45,13 @@ decodes_as key s b s' b' same_s same_b decodes = λ score slope offset hs hb is.
     let found = decodes score slope offset hs hb is in
     (found.0 ∙ same_s, found.1 ∙ same_b)
 
-found_at : (problem : Problem) (key : ℕ) → IsAnswer problem key → 0 < key → HasPointOfKey key problem
+found_at : (problem : GridProblem) (key : ℕ) → IsGridAnswer problem key → 0 < key → HasPointOfKey key problem
 found_at problem key answer some = ⊎_elim
     (λ (none : key ≡ 0). absurd (omega (arith, none, some)))
-    (λ (admitted : IsAdmitted (numbers_of problem) key). admitted_here problem (numbers_of problem) key refl admitted)
+    (λ (admitted : IsGridKey (grid_numbers problem) key). admitted_here problem (grid_numbers problem) key refl admitted)
     answer.sound
 
-pub is_line_key : (problem : Problem) (key : ℕ) → problem.height ≤ 8192 → IsAnswer problem key → 0 < key → IsLineKey key
+pub is_line_key : (problem : GridProblem) (key : ℕ) → problem.height ≤ 8192 → IsGridAnswer problem key → 0 < key → IsLineKey key
 is_line_key problem key high answer some =
     let found = found_at problem key answer some in
     let point = found.admissible.scored.point in
@@ -67,12 +65,12 @@ is_line_key problem key high answer some =
     }
 
 -- the decoded point is the admitted one
-pub record IsWinner (problem : Problem) (key : ℕ) (s b : ℤ) (score : ℕ) : Type 0 where
+pub record IsWinner (problem : GridProblem) (key : ℕ) (s b : ℤ) (score : ℕ) : Type 0 where
   pub point : IsPoint problem.height s b
   pub enough : 60 ≤ score
   pub is : line_key score s b ≡ key
 
-winner_is : (problem : Problem) (key : ℕ) → problem.height ≤ 8192 → IsAnswer problem key → 0 < key → (s b : ℤ) → Decodes key s b → (score in_column : ℕ) → IsScore s b problem.boxes problem.gutters problem.alive score in_column → IsWinner problem key s b score
+winner_is : (problem : GridProblem) (key : ℕ) → problem.height ≤ 8192 → IsGridAnswer problem key → 0 < key → (s b : ℤ) → Decodes key s b → (score in_column : ℕ) → IsScore s b problem.boxes problem.gutters problem.alive score in_column → IsWinner problem key s b score
 winner_is problem key high answer some s b decodes score in_column scored =
     let found = found_at problem key answer some in
     let at = found.admissible.scored in
@@ -87,32 +85,36 @@ winner_is problem key high answer some s b decodes score in_column scored =
       is = subst (λ (n : ℕ). line_key n s b ≡ key) one key_here;
     }
 
-pub admits : (problem : Problem) (slope offset : ℤ) (score : ℕ) → IsAdmissibleIn problem slope offset score → IsAdmitted (numbers_of problem) (line_key score slope offset)
+pub admits : (problem : GridProblem) (slope offset : ℤ) (score : ℕ) → IsAdmissibleIn problem slope offset score → IsGridKey (grid_numbers problem) (line_key score slope offset)
 admits problem slope offset score point =
-    on_numbers (HasPointOfKey (line_key score slope offset)) problem (record { slope = slope; offset = offset; score = score; has_key = refl; admissible = point })
+    on_numbers grid_numbers (HasPointOfKey (line_key score slope offset)) problem (record { slope = slope; offset = offset; score = score; has_key = refl; admissible = point })
 
-pub best_is : (problem : Problem) (key : ℕ) → IsAnswer problem key → (line : Line) (in_column : ℕ) (others : List ℕ) → IsWinner problem key line.slope line.offset line.score → IsTaken problem line.slope line.offset line.score in_column line.members others → IsLeastRound problem.boxes line.members line.bbox → IsBestIn problem line
-best_is problem key answer line in_column others winner taken round = record {
-  admissible = record { scored = record { point = winner.point; in_column = in_column; scored = taken.scored }; enough = winner.enough };
-  greatest = λ slope offset score point. omega (arith, winner.is, answer.greatest (line_key score slope offset) (admits problem slope offset score point));
-  members = taken.members_are;
-  bbox = round;
-}
+pub best_is : (problem : GridProblem) (key : ℕ) → IsGridAnswer problem key → (winner : Winner) (division : Division) (line : Line) → IsTaken problem key line.score winner division → line.slope ≡ winner.slope → line.offset ≡ winner.offset → line.members ≡ division.members → IsLeastRound problem.boxes line.members line.bbox → IsBestIn problem line
+best_is problem key answer winner division line taken slopes offsets members round =
+    let point : IsPoint problem.height line.slope line.offset = rw (slopes, offsets) taken.point in
+    let scored : IsScore line.slope line.offset problem.boxes problem.gutters problem.alive line.score winner.column = rw (slopes, offsets) taken.scored in
+    let has_key : line_key line.score line.slope line.offset ≡ key = rw (slopes, offsets) taken.has_key in
+    record {
+      admissible = record { scored = record { point = point; in_column = winner.column; scored = scored }; enough = taken.enough };
+      greatest = λ slope offset score point. omega (arith, has_key, answer.greatest (line_key score slope offset) (admits problem slope offset score point));
+      members = rw (slopes, offsets) (members ∙ taken.members);
+      bbox = round;
+    }
 
-pub no_line : (problem : Problem) (key : ℕ) → IsAnswer problem key → key ≡ 0 → HasNoLineIn problem
+pub no_line : (problem : GridProblem) (key : ℕ) → IsGridAnswer problem key → key ≡ 0 → HasNoLineIn problem
 no_line problem key answer zero_is = λ slope offset score point. answer.none zero_is (line_key score slope offset) (admits problem slope offset score point)
 
 some_of : (f : ℕ → ℕ) (xs : List ℕ) → 0 < sum_by f xs → 0 < length xs
 some_of f [] some = absurd (omega arith)
 some_of f (x ∷ xs) some = omega arith
 
-members_some : (problem : Problem) (s b : ℤ) (score in_column : ℕ) (members others : List ℕ) → IsTaken problem s b score in_column members others → 60 ≤ score → 0 < length members
-members_some problem s b score in_column members others taken enough =
-    rw taken.members_are (some_of (λ (position : ℕ). weight_of s b (slice_get problem.boxes position)) (group_of s b problem.boxes problem.gutters in_column problem.alive) (omega (arith, taken.scored.reached, enough)))
+pub members_some : (problem : GridProblem) (key score : ℕ) (winner : Winner) (division : Division) → IsTaken problem key score winner division → 0 < length division.members
+members_some problem key score winner division taken =
+    rw taken.members (some_of (λ (position : ℕ). weight_of winner.slope winner.offset (slice_get problem.boxes position)) (group_of winner.slope winner.offset problem.boxes problem.gutters winner.column problem.alive) (omega (arith, taken.scored.reached, taken.enough)))
 
-members_within : (problem : Problem) (s b : ℤ) (score in_column : ℕ) (members others : List ℕ) → IsTaken problem s b score in_column members others → All (λ position. position < length problem.boxes) problem.alive → All (λ position. position < length problem.boxes) members
-members_within problem s b score in_column members others taken within =
-    rw taken.members_are (All-filter (λ (position : ℕ). is_of s b problem.gutters in_column (slice_get problem.boxes position)) (λ (position : ℕ). position < length problem.boxes) problem.alive within)
+pub members_within : (problem : GridProblem) (key score : ℕ) (winner : Winner) (division : Division) → IsTaken problem key score winner division → All (λ position. position < length problem.boxes) problem.alive → All (λ position. position < length problem.boxes) division.members
+members_within problem key score winner division taken within =
+    rw taken.members (All-filter (λ (position : ℕ). is_of winner.slope winner.offset problem.gutters winner.column (slice_get problem.boxes position)) (λ (position : ℕ). position < length problem.boxes) problem.alive within)
 
 -- a test that agrees on a list keeps the same of it
 filter_agrees : (p q : ℕ → Bool) (xs : List ℕ) → All (λ x. p x ≡ q x) xs → filter p xs ≡ filter q xs
@@ -142,21 +144,21 @@ found_in xs x there =
     let at = at_from_Contains xs x there in
     list_any-from_Any (λ (y : ℕ). y == x) xs (at.0, x, at.1, at.2 x, itself x)
 
-pub rest_is : (problem : Problem) (s b : ℤ) (score in_column : ℕ) (members others : List ℕ) → IsTaken problem s b score in_column members others → others ≡ filter (λ position. not (list_any (λ member. member == position) members)) problem.alive
-rest_is problem s b score in_column members others taken =
-    let p : ℕ → Bool = λ position. is_of s b problem.gutters in_column (slice_get problem.boxes position) in
-    taken.others_are ∙ filter_agrees (λ (position : ℕ). not (p position)) (λ (position : ℕ). not (list_any (λ member. member == position) members)) problem.alive
-    (All-weaker (Contains problem.alive) (λ (x : ℕ). not (p x) ≡ not (list_any (λ member. member == x) members))
-    (λ x there. ap not (rw taken.members_are (member_test p problem.alive x (found_in problem.alive x there)))) problem.alive (All-contains_itself problem.alive))
+pub rest_is : (problem : GridProblem) (key score : ℕ) (winner : Winner) (division : Division) → IsTaken problem key score winner division → division.others ≡ without division.members problem.alive
+rest_is problem key score winner division taken =
+    let p : ℕ → Bool = λ position. is_of winner.slope winner.offset problem.gutters winner.column (slice_get problem.boxes position) in
+    taken.others ∙ filter_agrees (λ (position : ℕ). not (p position)) (λ (position : ℕ). not (list_any (λ member. member == position) division.members)) problem.alive
+    (All-weaker (Contains problem.alive) (λ (x : ℕ). not (p x) ≡ not (list_any (λ member. member == x) division.members))
+    (λ x there. ap not (rw taken.members (member_test p problem.alive x (found_in problem.alive x there)))) problem.alive (All-contains_itself problem.alive))
 
-pub fewer_are : (problem : Problem) (s b : ℤ) (score in_column : ℕ) (members others : List ℕ) → IsTaken problem s b score in_column members others → 0 < length members → length others < length problem.alive
-fewer_are problem s b score in_column members others taken some =
-    let p : ℕ → Bool = λ position. is_of s b problem.gutters in_column (slice_get problem.boxes position) in
+pub fewer_are : (problem : GridProblem) (key score : ℕ) (winner : Winner) (division : Division) → IsTaken problem key score winner division → length division.others < length problem.alive
+fewer_are problem key score winner division taken =
+    let p : ℕ → Bool = λ position. is_of winner.slope winner.offset problem.gutters winner.column (slice_get problem.boxes position) in
     let both : length (filter p problem.alive) + length (filter (λ (position : ℕ). not (p position)) problem.alive) ≡ length problem.alive = length-filter_both p (λ (position : ℕ). not (p position)) (λ _. refl) problem.alive in
-    omega (arith, both, ap length taken.members_are, ap length taken.others_are, some)
+    omega (arith, both, ap length taken.members, ap length taken.others, members_some problem key score winner division taken)
 
 -- the decoded numbers fit their types
-decodes_back : (problem : Problem) (key : ℕ) → problem.height ≤ 8192 → IsAnswer problem key → 0 < key → (s b : ℤ) → Decodes key s b → Decodes key (to_z w8 (of_z w8 s)) (to_z w16 (of_z w16 b))
+decodes_back : (problem : GridProblem) (key : ℕ) → problem.height ≤ 8192 → IsGridAnswer problem key → 0 < key → (s b : ℤ) → Decodes key s b → Decodes key (to_z w8 (of_z w8 s)) (to_z w16 (of_z w16 b))
 decodes_back problem key high greatest some s b decodes =
     let found = found_at problem key greatest some in
     let point = found.admissible.scored.point in
@@ -166,29 +168,27 @@ decodes_back problem key high greatest some s b decodes =
     let offset_back : b ≡ to_z w16 (of_z w16 b) = omega (arith, ints, same.1, offset.low, offset.high) in
     decodes_as key s b (to_z w8 (of_z w8 s)) (to_z w16 (of_z w16 b)) slope_back offset_back decodes
 
--- what the line of an answer is made of
-pub record IsTakenLine (problem : Problem) (key : ℕ) (slope offset : ℤ) (score in_column : ℕ) (members others : List ℕ) : Type 0 where
-  pub taken : IsTaken problem slope offset score in_column members others
-  pub winner : IsWinner problem key slope offset score
-  pub some : 0 < length members
-  pub within : All (λ position. position < length problem.boxes) members
+-- the decoded line, with its numbers as their types hold them
+abbrev pub winner_of : ℤ → ℤ → ℕ → Winner
+winner_of s b column = record { slope = to_z w8 (of_z w8 s); offset = to_z w16 (of_z w16 b); column = column }
 
-pub taken_line : (problem : Problem) (key : ℕ) → problem.height ≤ 8192 → IsAnswer problem key → 0 < key → All (λ position. position < length problem.boxes) problem.alive → (s b : ℤ) → Decodes key s b → (score in_column : ℕ) (members others : List ℕ)
-    → IsScore (to_z w8 (of_z w8 s)) (to_z w16 (of_z w16 b)) problem.boxes problem.gutters problem.alive score in_column
-    → members ≡ group_of (to_z w8 (of_z w8 s)) (to_z w16 (of_z w16 b)) problem.boxes problem.gutters in_column problem.alive
-    → others ≡ filter (λ position. not (is_of (to_z w8 (of_z w8 s)) (to_z w16 (of_z w16 b)) problem.gutters in_column (slice_get problem.boxes position))) problem.alive
-    → IsTakenLine problem key (to_z w8 (of_z w8 s)) (to_z w16 (of_z w16 b)) score in_column members others
-taken_line problem key high answer positive within s b decodes score in_column members others scored are rest =
-    let slope : ℤ = to_z w8 (of_z w8 s) in
-    let offset : ℤ = to_z w16 (of_z w16 b) in
-    let taken : IsTaken problem slope offset score in_column members others = record { scored = scored; members_are = are; others_are = rest } in
-    let winner = winner_is problem key high answer positive slope offset (decodes_back problem key high answer positive s b decodes) score in_column scored in
-    record {
-      taken = taken;
-      winner = winner;
-      some = members_some problem slope offset score in_column members others taken winner.enough;
-      within = members_within problem slope offset score in_column members others taken within;
-    }
+pub taken_line : (problem : GridProblem) (key : ℕ) → problem.height ≤ 8192 → IsGridAnswer problem key → 0 < key → (s b : ℤ) → Decodes key s b → (score in_column : ℕ) (division : Division)
+    → let winner : Winner = winner_of s b in_column in
+    IsScore winner.slope winner.offset problem.boxes problem.gutters problem.alive score in_column
+    → division.members ≡ group_of winner.slope winner.offset problem.boxes problem.gutters in_column problem.alive
+    → division.others ≡ filter (λ position. not (is_of winner.slope winner.offset problem.gutters in_column (slice_get problem.boxes position))) problem.alive
+    → IsTaken problem key score winner division
+taken_line problem key high answer positive s b decodes score in_column division scored are rest =
+    let winner : Winner = winner_of s b in_column in
+    let won = winner_is problem key high answer positive winner.slope winner.offset (decodes_back problem key high answer positive s b decodes) score in_column scored in
+    record { point = won.point; scored = scored; enough = won.enough; has_key = won.is; members = are; others = rest }
+
+-- its numbers fit their types
+pub slope_fits : (problem : GridProblem) (key score : ℕ) (winner : Winner) (division : Division) → IsTaken problem key score winner division → to_z w8 (of_z w8 winner.slope) ≡ winner.slope
+slope_fits problem key score winner division taken = omega (arith, ints, taken.point.slope_in.low, taken.point.slope_in.high)
+
+pub offset_fits : (problem : GridProblem) (key score : ℕ) (winner : Winner) (division : Division) → problem.height ≤ 8192 → IsTaken problem key score winner division → to_z w16 (of_z w16 winner.offset) ≡ winner.offset
+offset_fits problem key score winner division high taken = omega (arith, ints, high, taken.point.low, taken.point.high)
 
 -- the rest keeps the limits
 pub rest_within : (height : ℕ) (boxes gutters : List Rect) (alive others : List ℕ) (p : ℕ → Bool) → IsWithinLimits (record { height = height; boxes = boxes; alive = alive; gutters = gutters }) → others ≡ filter p alive → IsWithinLimits (record { height = height; boxes = boxes; alive = others; gutters = gutters })
@@ -201,7 +201,7 @@ rest_within height boxes gutters alive others p limits are = record {
   positions = rw are (All-filter p (λ (position : ℕ). position < length boxes) alive limits.positions);
 }
 
-pub problem_with : (view problem : Problem) → view ≡ problem → (others rest : List ℕ) → others ≡ rest → (record view { alive = others }) ≡ (record problem { alive = rest })
+pub problem_with : (view problem : GridProblem) → view ≡ problem → (others rest : List ℕ) → others ≡ rest → (record view { alive = others }) ≡ (record problem { alive = rest })
 problem_with view problem same others rest are = cc
 
 -- the lines so far end well, whatever lines the rest has

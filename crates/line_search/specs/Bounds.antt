@@ -1,14 +1,17 @@
 -- What the lines of a shape can score at most.
-use Rattle.std.specs.Prelude.{take, drop, ◌-◌, ◌≡◌, ℕ, ◌+◌, ◌<◌, ◌≤◌, ℤ, pos, ◌-ℤ◌, List, length, Option, Some, None, slice_get, Bool, false, ◌&&◌, ◌==◌, int_lt, int_le, nat_le, nat_lt}
+use Rattle.std.specs.Prelude.{take, drop, ◌-◌, ◌≡◌, ℕ, ◌+◌, ◌<◌, ◌≤◌, ℤ, pos, ◌-ℤ◌, List, length, Option, Some, None}
+use Rattle.std.specs.Prelude.{slice_get, Bool, false, ◌&&◌, ◌==◌, int_lt, int_le, nat_le, nat_lt}
 use Rattle.std.specs.Int.{int_gap, int_min, int_max}
 use Rattle.std.specs.List.{sum_by, count_by, filter}
 use Rattle.layout_geom.specs.declared.rect.Rect.{Rect}
 use Rattle.box_search.specs.declared.space.Shape.{Shape}
 use Rattle.box_search.specs.declared.space.Node.{Node}
+use Rattle.box_search.specs.Problems.{OfProblem}
 use Rattle.line_quality.specs.Points.{height_at, middle_of, weight_at}
+use Rattle.line_quality.specs.Scores.{IsGreatest}
 use Rattle.line_quality.specs.Keys.{line_key}
 use Rattle.line_search.specs.declared.span.Span.{Span}
-use Rattle.line_search.specs.Problem.{Problem, OfProblem, HasScore}
+use Rattle.line_search.specs.Problem.{GridProblem, grid_numbers, HasScore}
 use Rattle.line_search.specs.Shapes.{IsInside, IsInGrid, IsSingle}
 
 -- no line of the shape is lower, or higher, at a column
@@ -23,13 +26,14 @@ abbrev pub distance : Shape → Rect → ℕ
 distance shape r = int_gap (pos r.y1) (lowest shape (middle_of r)) + int_gap (highest shape (middle_of r)) (pos r.y1)
 
 -- the most that a box can weigh for a line of the shape
-abbrev pub reach : Shape → Option Rect → ℕ
-reach shape (Some r) = weight_at (distance shape r)
-reach shape None = 0
+abbrev pub most_weight : Shape → Option Rect → ℕ
+most_weight shape (Some r) = weight_at (distance shape r)
+most_weight shape None = 0
 
 -- all lines of the shape cross the gutter
 abbrev pub all_cross : Shape → Rect → Bool
-all_cross shape gutter = int_lt (pos gutter.y0) (lowest shape (middle_of gutter)) && int_le (highest shape (middle_of gutter)) (pos gutter.y1)
+all_cross shape gutter = int_lt (pos gutter.y0) (lowest shape (middle_of gutter))
+    && int_le (highest shape (middle_of gutter)) (pos gutter.y1)
 
 -- how many gutters that all lines cross have their middle at the anchor or left of it
 abbrev pub sure_column : Shape → List Rect → ℕ → ℕ
@@ -41,37 +45,37 @@ is_surely shape gutters in_column None = false
 
 module _ (shape : Shape) (boxes : List Rect) where
   -- those of the positions whose box can weigh something for a line of the shape
-  abbrev pub reaching : List ℕ → List ℕ
-  reaching positions = filter (λ position. nat_lt 0 (reach shape (slice_get boxes position))) positions
+  abbrev pub weighing : List ℕ → List ℕ
+  weighing positions = filter (λ position. nat_lt 0 (most_weight shape (slice_get boxes position))) positions
 
   -- the most that the boxes at the positions can weigh together
-  abbrev pub total_reach : List ℕ → ℕ
-  total_reach positions = sum_by (λ position. reach shape (slice_get boxes position)) positions
+  abbrev pub most_together : List ℕ → ℕ
+  most_together positions = sum_by (λ position. most_weight shape (slice_get boxes position)) positions
 
   -- the most that those of one sure column can weigh together
-  abbrev pub column_reach : List Rect → List ℕ → ℕ → ℕ
-  column_reach gutters positions in_column = total_reach (filter (λ position. is_surely shape gutters in_column (slice_get boxes position)) positions)
+  abbrev pub most_in_column : List Rect → List ℕ → ℕ → ℕ
+  most_in_column gutters positions in_column = most_together
+      (filter (λ position. is_surely shape gutters in_column (slice_get boxes position)) positions)
 
 -- the slope of the shape that is nearest to 0, which has the least rank
 abbrev pub nearest_slope : Shape → ℤ
 nearest_slope shape = int_max shape.a0 (int_min (shape.a1 -ℤ pos 1) (pos 0))
 
 -- the greatest of the sums of the columns, and the least column that has it
-pub record HasMost (shape : Shape) (boxes gutters : List Rect) (positions : List ℕ) (most in_column : ℕ) : Type 0 where
-  pub reached : column_reach shape boxes gutters positions in_column ≡ most
-  pub greatest : (other : ℕ) → column_reach shape boxes gutters positions other ≤ most
-  pub least : (other : ℕ) → other < in_column → column_reach shape boxes gutters positions other < most
+abbrev pub HasMost : Shape → List Rect → List Rect → List ℕ → ℕ → ℕ → Type 0
+HasMost shape boxes gutters positions most in_column = IsGreatest (most_in_column shape boxes gutters positions) most in_column
 
 -- the bound that knows no columns
-abbrev pub plain_bound : Problem → Shape → ℕ
-plain_bound problem shape = line_key (total_reach shape problem.boxes problem.alive) (nearest_slope shape) shape.b0
+abbrev pub plain_bound : GridProblem → Shape → ℕ
+plain_bound problem shape = line_key (most_together shape problem.boxes problem.alive) (nearest_slope shape) shape.b0
 
 -- no scored point of the shape has a greater key
-abbrev pub IsOver : Problem → Shape → ℕ → Type 0
-IsOver problem shape bound = (slope offset : ℤ) (score : ℕ) → HasScore problem slope offset score → IsInside slope offset shape → line_key score slope offset ≤ bound
+abbrev pub IsOver : GridProblem → Shape → ℕ → Type 0
+IsOver problem shape bound = (slope offset : ℤ) (score : ℕ) → HasScore problem slope offset score → IsInside slope offset shape
+    → line_key score slope offset ≤ bound
 
 -- a bound of all points in the shape: the key itself where there is one point, and else at most the plain bound
-pub record IsBound (problem : Problem) (shape : Shape) (bound : ℕ) : Type 0 where
+pub record IsBound (problem : GridProblem) (shape : Shape) (bound : ℕ) : Type 0 where
   pub over : IsOver problem shape bound
   pub single : IsSingle shape → (score : ℕ) × HasScore problem shape.a0 shape.b0 score × (line_key score shape.a0 shape.b0 ≡ bound)
   pub wide : (IsSingle shape → ⊥) → bound ≤ plain_bound problem shape
@@ -81,16 +85,16 @@ abbrev pub stretch_of : {X : Type 0} → Span → List X → List X
 stretch_of span xs = take (span.to - span.from) (drop span.from xs)
 
 -- the stretch of the positions that are alive has all whose box can weigh something for a line of the shape
-pub record HasReaching (problem : Problem) (shape : Shape) (span : Span) : Type 0 where
+pub record HasWeighing (problem : GridProblem) (shape : Shape) (span : Span) : Type 0 where
   pub ordered : span.from ≤ span.to
   pub inside : span.to ≤ length problem.alive
-  pub same : reaching shape problem.boxes (stretch_of span problem.alive) ≡ reaching shape problem.boxes problem.alive
+  pub same : weighing shape problem.boxes (stretch_of span problem.alive) ≡ weighing shape problem.boxes problem.alive
 
 -- the node's shape is of the grid, its bound is one, and its stretch has the positions that count
-pub record IsNodeIn (node : Node Span) (problem : Problem) : Type 0 where
+pub record IsGridNode (node : Node Span) (problem : GridProblem) : Type 0 where
   pub in_grid : IsInGrid problem.height node.shape
   pub bounded : IsBound problem node.shape node.bound
-  pub near : HasReaching problem node.shape node.work
+  pub near : HasWeighing problem node.shape node.work
 
 abbrev pub FitsGrid : List ℤ → Node Span → Type 0
-FitsGrid numbers node = OfProblem (IsNodeIn node) numbers
+FitsGrid numbers node = OfProblem grid_numbers (IsGridNode node) numbers

@@ -2,35 +2,43 @@
 use Rattle.std.specs.Prelude.{◌≡◌, ℕ, ◌<◌, ◌≤◌, ℤ, List}
 use Rattle.std.proofs.Common.{arith, sym, ◌∙◌, subst}
 use Rattle.std.proofs.lemmas.Int.{ints}
+use Rattle.layout_limits.specs.declared.TheConstants.{MAX_SIDE}
 use Rattle.box_search.specs.declared.space.Shape.{Shape}
 use Rattle.box_search.specs.declared.space.Node.{Node}
 use Rattle.line_quality.specs.Points.{IsOffset}
 use Rattle.line_quality.specs.KeyLaws.{same_point}
 use Rattle.line_search.specs.Lines.{IsPoint}
 use Rattle.line_search.specs.declared.span.Span.{Span}
-use Rattle.line_search.specs.Problem.{Problem, numbers_of, HasPointOfKey, IsAdmitted}
-use Rattle.line_search.specs.ProblemLaws.{same_problem}
-use Rattle.line_search.specs.Shapes.{IsInside, LiesInShape}
+use Rattle.line_search.specs.Problem.{GridProblem, grid_numbers, HasPointOfKey, IsGridKey}
+use Rattle.line_search.specs.ProblemLaws.{same_grid_problem}
+use Rattle.line_search.specs.Shapes.{IsInside, PointLiesIn}
 use Rattle.line_search.specs.Bounds.{FitsGrid}
 
 -- an admitted key is one of the problem that the numbers stand for
-pub admitted_here : (problem : Problem) (numbers : List ℤ) (key : ℕ) → numbers_of problem ≡ numbers → IsAdmitted numbers key → HasPointOfKey key problem
-admitted_here problem numbers key stands admitted = subst (HasPointOfKey key) (same_problem admitted.problem problem (admitted.stands ∙ sym stands)) admitted.holds
+pub admitted_here : (problem : GridProblem) (numbers : List ℤ) (key : ℕ) → grid_numbers problem ≡ numbers → IsGridKey numbers key
+    → HasPointOfKey key problem
+admitted_here problem numbers key stands admitted = subst (HasPointOfKey key)
+    (same_grid_problem admitted.problem problem (admitted.stands ∙ sym stands)) admitted.holds
 
-pub offset_in : (problem : Problem) (slope offset : ℤ) → IsPoint problem.height slope offset → problem.height ≤ 8192 → IsOffset offset
+pub offset_in : (problem : GridProblem) (slope offset : ℤ) → IsPoint problem.height slope offset → problem.height ≤ MAX_SIDE
+    → IsOffset offset
 offset_in problem slope offset point high = record { low = point.low; high = omega (arith, ints, point.high) }
 
 -- the point of an admitted key that lies in a shape
-pub inside_of : (key : ℕ) (problem : Problem) (shape : Shape) (high : problem.height ≤ 8192) (here : HasPointOfKey key problem) → LiesInShape key shape → IsInside here.slope here.offset shape
+pub inside_of : (key : ℕ) (problem : GridProblem) (shape : Shape) (high : problem.height ≤ MAX_SIDE) (here : HasPointOfKey key problem)
+    → PointLiesIn key shape → IsInside here.slope here.offset shape
 inside_of key problem shape high here lies =
     let point = here.admissible.scored.point in
-    let same = same_point here.score lies.score here.slope lies.slope here.offset lies.offset point.slope_in lies.slope_in (offset_in problem here.slope here.offset point high) lies.offset_in (here.has_key ∙ sym lies.has_key) in
-    subst (λ (z : ℤ). IsInside z here.offset shape) (sym same.slopes) (subst (λ (z : ℤ). IsInside lies.slope z shape) (sym same.offsets) lies.inside)
+    let same = same_point here.score lies.score here.slope lies.slope here.offset lies.offset point.slope_in lies.slope_in
+    (offset_in problem here.slope here.offset point high) lies.offset_in (here.has_key ∙ sym lies.has_key) in
+    subst (λ (z : ℤ). IsInside z here.offset shape) (sym same.slopes)
+    (subst (λ (z : ℤ). IsInside lies.slope z shape) (sym same.offsets) lies.inside)
 
-pub grid_positive : (numbers : List ℤ) (key : ℕ) → IsAdmitted numbers key → 0 < key
+pub grid_positive : (numbers : List ℤ) (key : ℕ) → IsGridKey numbers key → 0 < key
 grid_positive numbers key admitted = omega (arith, admitted.holds.has_key, admitted.holds.admissible.enough)
 
-pub grid_bounded : (numbers : List ℤ) (node : Node Span) (key : ℕ) → FitsGrid numbers node → IsAdmitted numbers key → LiesInShape key node.shape → key ≤ node.bound
+pub grid_bounded : (numbers : List ℤ) (node : Node Span) (key : ℕ) → FitsGrid numbers node → IsGridKey numbers key
+    → PointLiesIn key node.shape → key ≤ node.bound
 grid_bounded numbers node key fits admitted lies =
     let problem = fits.problem in
     let here = admitted_here problem numbers key fits.stands admitted in

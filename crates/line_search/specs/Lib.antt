@@ -7,3 +7,4 @@ pub mod Bounds
 pub mod Parts
 pub mod GridLaws
 pub mod Windows
+pub mod Taken

@@ -1,14 +1,18 @@
 -- The lines of text of a page, each the best of the grid among the boxes that are in no line before it.
-use Rattle.std.specs.Prelude.{◌≡◌, ℕ, ◌+◌, ◌*◌, ◌≤◌, ℤ, pos, negsuc, ◌≤ℤ◌, Bool, false, not, ◌==◌, List, [], ◌∷◌, Option, Some, None, slice_get, length, IfSome, All}
+use Rattle.std.specs.Prelude.{◌≡◌, ℕ, ◌+◌, ◌*◌, ◌≤◌, ℤ, pos, negsuc, ◌≤ℤ◌, Bool, false, not, ◌==◌, List}
+use Rattle.std.specs.Prelude.{[], ◌∷◌, Option, Some, None, slice_get, length, IfSome, All}
 use Rattle.std.specs.List.{filter, list_any, range_with_len}
+use Rattle.layout_limits.specs.declared.TheConstants.{MAX_SIDE}
 use Rattle.layout_geom.specs.declared.rect.Rect.{Rect}
 use Rattle.layout_geom.specs.Rectangles.{Encloses, IsLeastRect}
 use Rattle.components.specs.declared.kept.Kept.{Kept}
 use Rattle.components.specs.Kept.{is_char_sized}
+use Rattle.line_quality.specs.declared.limits.TheConstants.{LEAST_OFFSET, OFFSET_MARGIN}
 use Rattle.line_quality.specs.Points.{IsSlope}
 use Rattle.line_quality.specs.Scores.{IsScore, group_of}
 use Rattle.line_quality.specs.Keys.{line_key}
 use Rattle.line_search.specs.declared.line.Line.{Line}
+use Rattle.line_search.specs.declared.grid.TheConstants.{LEAST_SCORE}
 
 -- the rectangle encloses the boxes at the positions
 abbrev pub IsRound : List Rect → List ℕ → Rect → Type 0
@@ -25,8 +29,8 @@ without members alive = filter (λ position. not (list_any (λ member. member ==
 -- a point of the grid of a page of this height: a line by its slope in thousandths and its offset
 pub record IsPoint (height : ℕ) (slope offset : ℤ) : Type 0 where
   pub slope_in : IsSlope slope
-  pub low : negsuc 299 ≤ℤ offset
-  pub high : offset ≤ℤ pos (height + 300)
+  pub low : LEAST_OFFSET ≤ℤ offset
+  pub high : offset ≤ℤ pos (height + OFFSET_MARGIN)
 
 module _ (boxes gutters : List Rect) (height : ℕ) where
   -- the point is of the grid, and this is the greatest weight of a column of the boxes that are alive
@@ -36,18 +40,19 @@ module _ (boxes gutters : List Rect) (height : ℕ) where
     pub scored : IsScore slope offset boxes gutters alive score in_column
 
   -- the score is enough for a line
-  pub record IsAdmissible (alive : List ℕ) (slope offset : ℤ) (score : ℕ) : Type 0 where
+  pub record IsAdmissiblePoint (alive : List ℕ) (slope offset : ℤ) (score : ℕ) : Type 0 where
     pub scored : IsScored alive slope offset score
-    pub enough : 60 ≤ score
+    pub enough : LEAST_SCORE ≤ score
 
   -- no point is admissible
   abbrev pub HasNoLine : List ℕ → Type 0
-  HasNoLine alive = (slope offset : ℤ) (score : ℕ) → IsAdmissible alive slope offset score → ⊥
+  HasNoLine alive = (slope offset : ℤ) (score : ℕ) → IsAdmissiblePoint alive slope offset score → ⊥
 
   -- the admissible point of greatest key, with the group of the column that wins
   pub record IsBestLine (alive : List ℕ) (line : Line) : Type 0 where
-    pub admissible : IsAdmissible alive line.slope line.offset line.score
-    pub greatest : (slope offset : ℤ) (score : ℕ) → IsAdmissible alive slope offset score → line_key score slope offset ≤ line_key line.score line.slope line.offset
+    pub admissible : IsAdmissiblePoint alive line.slope line.offset line.score
+    pub greatest : (slope offset : ℤ) (score : ℕ) → IsAdmissiblePoint alive slope offset score
+        → line_key score slope offset ≤ line_key line.score line.slope line.offset
     pub members : line.members ≡ group_of line.slope line.offset boxes gutters admissible.scored.in_column alive
     pub bbox : IsLeastRound boxes line.members line.bbox
 
@@ -69,6 +74,7 @@ characters_of kept = filter (λ position. is_character kept.median (slice_get ke
 abbrev pub AreLinesOf : Kept → List Rect → ℕ → List Line → Type 0
 AreLinesOf kept gutters height lines = IsLineList kept.boxes gutters height (characters_of kept) lines
 
--- a page of at most 8192 rows has one list of lines
+-- a page of no more rows than a page may have has one list of lines
 abbrev pub LinesAreUnique : Type 0
-LinesAreUnique = (kept : Kept) (gutters : List Rect) (height : ℕ) (xs ys : List Line) → height ≤ 8192 → AreLinesOf kept gutters height xs → AreLinesOf kept gutters height ys → xs ≡ ys
+LinesAreUnique = (kept : Kept) (gutters : List Rect) (height : ℕ) (xs ys : List Line) → height ≤ MAX_SIDE
+    → AreLinesOf kept gutters height xs → AreLinesOf kept gutters height ys → xs ≡ ys

@@ -5,10 +5,10 @@ use Rattle.box_search.specs.declared.space.Shape.{Shape}
 use Rattle.box_search.specs.declared.space.Node.{Node}
 use Rattle.box_search.specs.declared.space.Step.{Step}
 use Rattle.box_search.specs.declared.space.Step.TheVariants.{Settled, Split}
-use Rattle.line_search.specs.Lines.{IsAdmissible}
+use Rattle.line_search.specs.Lines.{IsAdmissiblePoint}
 use Rattle.line_search.specs.declared.span.Span.{Span}
-use Rattle.line_search.specs.Problem.{Problem, HasPointOfKey}
-use Rattle.line_search.specs.Shapes.{LiesInShape, IsSingle}
+use Rattle.line_search.specs.Problem.{GridProblem, HasPointOfKey}
+use Rattle.line_search.specs.Shapes.{PointLiesIn, IsSingle}
 
 -- the middle of a range, rounded towards the lesser number
 abbrev pub half : ℤ → ℤ → ℤ
@@ -33,11 +33,11 @@ AreHalves shape lower upper =
     ⊎ (((shape.b0 +ℤ pos 2) ≤ℤ shape.b1) × (lower ≡ lower_offsets shape) × (upper ≡ upper_offsets shape))
 
 -- no admissible point lies in the shape
-abbrev pub HasNoPoint : Problem → Shape → Type 0
-HasNoPoint problem shape = (key : ℕ) → HasPointOfKey key problem → LiesInShape key shape → ⊥
+abbrev pub HasNoPoint : GridProblem → Shape → Type 0
+HasNoPoint problem shape = (key : ℕ) → HasPointOfKey key problem → PointLiesIn key shape → ⊥
 
 -- the nodes of both parts in order, and a part is left out only where no admissible point lies in it
-pub record IsGridSplit (problem : Problem) (shape : Shape) (nodes : List (Node Span)) : Type 0 where
+pub record IsGridSplit (problem : GridProblem) (shape : Shape) (nodes : List (Node Span)) : Type 0 where
   pub lower : Shape
   pub upper : Shape
   pub keep_lower : Bool
@@ -48,11 +48,11 @@ pub record IsGridSplit (problem : Problem) (shape : Shape) (nodes : List (Node S
   pub no_upper : keep_upper ≡ false → HasNoPoint problem upper
 
 -- the point of a single shape is admissible
-abbrev pub IsPointAdmissible : Problem → Shape → ℕ → Type 0
-IsPointAdmissible problem shape score = IsAdmissible problem.boxes problem.gutters problem.height problem.alive shape.a0 shape.b0 score
+abbrev pub IsPointAdmissible : GridProblem → Shape → ℕ → Type 0
+IsPointAdmissible problem shape score = IsAdmissiblePoint problem.boxes problem.gutters problem.height problem.alive shape.a0 shape.b0 score
 
 -- a single point is settled exactly where it is admissible, and any other shape is cut
-abbrev pub IsGridStep : Problem → Shape → Step Span → Type 0
+abbrev pub IsGridStep : GridProblem → Shape → Step Span → Type 0
 IsGridStep problem shape (Settled key) = IsSingle shape × ((score : ℕ) × IsPointAdmissible problem shape score)
 IsGridStep problem shape (Split nodes) =
     (IsSingle shape × (nodes.items ≡ []) × ((score : ℕ) → IsPointAdmissible problem shape score → ⊥))

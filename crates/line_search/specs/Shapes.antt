@@ -1,6 +1,8 @@
 -- Boxes of lines: a range of slopes and a range of offsets.
 use Rattle.std.specs.Prelude.{◌≡◌, ℕ, ◌+◌, ◌≤◌, ℤ, pos, negsuc, ◌+ℤ◌, ◌≤ℤ◌, ◌<ℤ◌}
+use Rattle.layout_limits.specs.declared.TheConstants.{MAX_SIDE}
 use Rattle.box_search.specs.declared.space.Shape.{Shape}
+use Rattle.line_quality.specs.declared.limits.TheConstants.{LEAST_SLOPE, MAX_SLOPE, LEAST_OFFSET, OFFSET_MARGIN}
 use Rattle.line_quality.specs.Points.{IsSlope, IsOffset}
 use Rattle.line_quality.specs.Keys.{line_key}
 
@@ -12,7 +14,7 @@ pub record IsInside (slope offset : ℤ) (shape : Shape) : Type 0 where
   pub to_offset : offset <ℤ shape.b1
 
 -- a key lies in a shape where its point does
-pub record LiesInShape (key : ℕ) (shape : Shape) : Type 0 where
+pub record PointLiesIn (key : ℕ) (shape : Shape) : Type 0 where
   pub score : ℕ
   pub slope : ℤ
   pub offset : ℤ
@@ -23,18 +25,25 @@ pub record LiesInShape (key : ℕ) (shape : Shape) : Type 0 where
 
 -- a shape with points, each of the grid of a page of this height
 pub record IsInGrid (height : ℕ) (shape : Shape) : Type 0 where
-  pub page : height ≤ 8192
-  pub from_slope : negsuc 31 ≤ℤ shape.a0
+  pub page : height ≤ MAX_SIDE
+  pub from_slope : LEAST_SLOPE ≤ℤ shape.a0
   pub some_slope : shape.a0 <ℤ shape.a1
-  pub to_slope : shape.a1 ≤ℤ pos 33
-  pub from_offset : negsuc 299 ≤ℤ shape.b0
+  pub to_slope : shape.a1 ≤ℤ (MAX_SLOPE +ℤ pos 1)
+  pub from_offset : LEAST_OFFSET ≤ℤ shape.b0
   pub some_offset : shape.b0 <ℤ shape.b1
-  pub to_offset : shape.b1 ≤ℤ pos (height + 301)
+  pub to_offset : shape.b1 ≤ℤ pos (height + OFFSET_MARGIN + 1)
   pub from_third : shape.c0 ≡ pos 0
   pub to_third : shape.c1 ≡ pos 1
 
 abbrev pub whole_grid : ℕ → Shape
-whole_grid height = record { a0 = negsuc 31; a1 = pos 33; b0 = negsuc 299; b1 = pos (height + 301); c0 = pos 0; c1 = pos 1 }
+whole_grid height = record {
+  a0 = LEAST_SLOPE;
+  a1 = MAX_SLOPE +ℤ pos 1;
+  b0 = LEAST_OFFSET;
+  b1 = pos (height + OFFSET_MARGIN + 1);
+  c0 = pos 0;
+  c1 = pos 1;
+}
 
 -- the shape has one point
 abbrev pub IsSingle : Shape → Type 0

@@ -1,12 +1,14 @@
 -- The search for the best line by ranges of rows, each for a range of offsets.
-use Rattle.std.specs.Prelude.{◌≡◌, ℕ, ◌+◌, ◌<◌, ◌≤◌, ℤ, pos, negsuc, ◌-ℤ◌, ◌≤ℤ◌, unsigned_abs, Bool, true, false, ◌&&◌, nat_le, nat_lt, List, Option, Some, None, slice_get, All, Any}
+use Rattle.std.specs.Prelude.{◌≡◌, ℕ, ◌+◌, ◌<◌, ◌≤◌, ℤ, pos, negsuc, ◌-ℤ◌, ◌≤ℤ◌, unsigned_abs, Bool, true, false, ◌&&◌}
+use Rattle.std.specs.Prelude.{nat_le, nat_lt, List, Option, Some, None, slice_get, All, Any}
 use Rattle.std.specs.List.{filter}
 use Rattle.layout_geom.specs.declared.rect.Rect.{Rect}
 use Rattle.box_search.specs.Search.{IsGreatestKey}
+use Rattle.line_quality.specs.declared.limits.TheConstants.{LEAST_OFFSET, OFFSET_MARGIN}
 use Rattle.line_quality.specs.Points.{IsSlope, weight}
 use Rattle.line_search.specs.declared.rows.Rows.{Rows}
 use Rattle.line_search.specs.declared.windows.Window.{Window}
-use Rattle.line_search.specs.Problem.{Problem, numbers_of, IsAdmitted}
+use Rattle.line_search.specs.Problem.{GridProblem, grid_numbers, IsGridKey}
 
 -- the foot of the box stands in the rows
 abbrev pub stands_in : Rows → Option Rect → Bool
@@ -18,21 +20,22 @@ abbrev pub standing : Rows → List Rect → List ℕ → List ℕ
 standing rows boxes positions = filter (λ position. stands_in rows (slice_get boxes position)) positions
 
 -- the same problem among these boxes alone
-abbrev pub within : Rows → Problem → Problem
+abbrev pub within : Rows → GridProblem → GridProblem
 within rows problem = record problem { alive = standing rows problem.boxes problem.alive }
 
 -- the window has the greatest key of the lines among its boxes
-abbrev pub IsSearched : Problem → Window → Type 0
-IsSearched problem window = IsGreatestKey (IsAdmitted (numbers_of (within window.rows problem))) window.key
+abbrev pub IsSearchedWindow : GridProblem → Window → Type 0
+IsSearchedWindow problem window = IsGreatestKey (IsGridKey (grid_numbers (within window.rows problem))) window.key
 
 -- what weighs something for a line has its foot at most so many rows from the line's offset
 abbrev pub IsMargin : List Rect → ℕ → Type 0
-IsMargin boxes margin = All (λ box. (slope offset : ℤ) → IsSlope slope → 0 < weight slope offset box → unsigned_abs (offset -ℤ pos box.y1) ≤ margin) boxes
+IsMargin boxes margin = All (λ box. (slope offset : ℤ) → IsSlope slope → 0 < weight slope offset box
+    → unsigned_abs (offset -ℤ pos box.y1) ≤ margin) boxes
 
 -- what weighs something for a line of the offset has its foot in the rows
-abbrev pub IsRound : List Rect → ℤ → Rows → Type 0
-IsRound boxes offset rows = All (λ box. (slope : ℤ) → IsSlope slope → 0 < weight slope offset box → stands_in rows (Some box) ≡ true) boxes
+abbrev pub HasFeet : List Rect → ℤ → Rows → Type 0
+HasFeet boxes offset rows = All (λ box. (slope : ℤ) → IsSlope slope → 0 < weight slope offset box → stands_in rows (Some box) ≡ true) boxes
 
 -- each offset of the grid of a page of this height has such rows
-abbrev pub AreRound : List Rect → ℕ → List Rows → Type 0
-AreRound boxes height all = (offset : ℤ) → negsuc 299 ≤ℤ offset → offset ≤ℤ pos (height + 300) → Any (IsRound boxes offset) all
+abbrev pub HaveFeet : List Rect → ℕ → List Rows → Type 0
+HaveFeet boxes height all = (offset : ℤ) → LEAST_OFFSET ≤ℤ offset → offset ≤ℤ pos (height + OFFSET_MARGIN) → Any (HasFeet boxes offset) all

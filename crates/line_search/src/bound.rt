@@ -5,11 +5,12 @@ ghost use Rattle.line_search.specs.Shapes.{IsInGrid, IsSingle};
 
 use box_search::Shape;
 use layout_geom::Rect;
-use line_quality::{height_at, middle, weight_at};
+use layout_limits::MAX_SIDE;
+use line_quality::{MAX_WEIGHT, height_at, middle, weight_at};
 
 /// Whether a shape has one point.
 pub(crate) fn is_single(shape: &Shape) -> bool
-    requires { IsInGrid 8192 shape.now }
+    requires { IsInGrid MAX_SIDE shape.now }
     ensures { IsTrue result ↔ IsSingle shape.now }
 {
     shape.a1 - shape.a0 == 1 && shape.b1 - shape.b0 == 1
@@ -17,7 +18,7 @@ pub(crate) fn is_single(shape: &Shape) -> bool
 
 /// The slope of a shape that is nearest to 0.
 pub(crate) fn nearest_slope(shape: &Shape) -> i8
-    requires { IsInGrid 8192 shape.now }
+    requires { IsInGrid MAX_SIDE shape.now }
     ensures { result ≡ Bounds.nearest_slope shape.now }
 {
     shape.a0.max((shape.a1 - 1).min(0)) as i8
@@ -25,7 +26,7 @@ pub(crate) fn nearest_slope(shape: &Shape) -> i8
 
 /// The least and the greatest height of the lines of the shape at a column.
 fn heights(shape: &Shape, anchor: u16) -> (i32, i32)
-    requires { IsInGrid 8192 shape.now }
+    requires { IsInGrid MAX_SIDE shape.now }
     ensures lowest { result.0 ≡ Bounds.lowest shape.now anchor }
     ensures highest { result.1 ≡ Bounds.highest shape.now anchor }
     ensures low { (negsuc 49999 ≤ℤ result.0) × (result.0 ≤ℤ pos 50000) }
@@ -37,10 +38,10 @@ fn heights(shape: &Shape, anchor: u16) -> (i32, i32)
 }
 
 /// The most that a box can weigh for a line of the shape.
-pub(crate) fn reach(shape: &Shape, rect: &Rect) -> u32
-    requires { IsInGrid 8192 shape.now }
-    ensures value { result ≡ Bounds.reach shape.now (Some rect.now) }
-    ensures small { result ≤ 25 }
+pub(crate) fn most_weight(shape: &Shape, rect: &Rect) -> u32
+    requires { IsInGrid MAX_SIDE shape.now }
+    ensures value { result ≡ Bounds.most_weight shape.now (Some rect.now) }
+    ensures small { result ≤ MAX_WEIGHT }
 {
     let foot = rect.y1() as i32;
     let (lowest, highest) = heights(shape, middle(rect));
@@ -51,7 +52,7 @@ pub(crate) fn reach(shape: &Shape, rect: &Rect) -> u32
 
 /// Whether all lines of the shape cross a gutter.
 pub(crate) fn all_cross(shape: &Shape, gutter: &Rect) -> bool
-    requires { IsInGrid 8192 shape.now }
+    requires { IsInGrid MAX_SIDE shape.now }
     ensures { result ≡ Bounds.all_cross shape.now gutter.now }
 {
     let (lowest, highest) = heights(shape, middle(gutter));

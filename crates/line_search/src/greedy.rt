@@ -12,7 +12,8 @@ use crate::windows::{first_windows, greatest_key, searched_again};
 use box_search::Searcher;
 use components::Kept;
 use layout_geom::Rects;
-use layout_limits::OutOfMemory;
+use layout_limits::{MAX_SIDE, OutOfMemory};
+use line_quality::MAX_GUTTERS;
 use std::alloc::Global;
 
 /// The rectangles, in a list of their own.
@@ -30,9 +31,9 @@ fn copy_of(alloc: Global, rects: &Rects) -> Result<Rects, OutOfMemory>
 /// At first all kept boxes that have about the size of a character are alive. A line is the admissible
 /// line of the grid of greatest key; its members are the boxes that weigh something for it, of the column
 /// between gutters that weighs most, so that no line goes on across a gutter that it crosses. They are
-/// alive no more afterwards. The list ends where no line has a score of at least 60.
+/// alive no more afterwards. The list ends where no line has a score of at least `LEAST_SCORE`.
 ///
-/// There are at most 60,000 boxes and 256 gutters, the height is from 1 to 8192, and one rectangle has all
+/// There are at most 60,000 boxes and `MAX_GUTTERS` gutters, the height is from 1 to `MAX_SIDE`, and one rectangle has all
 /// boxes inside. The one refusal is want of memory, after which it may be called again.
 pub fn lines<F: Searcher<Grid>>(
     alloc: Global,
@@ -42,9 +43,9 @@ pub fn lines<F: Searcher<Grid>>(
     searcher: &mut F,
 ) -> Result<Lines, OutOfMemory>
     requires few_boxes { length kept.now.boxes ≤ 60000 }
-    requires few_gutters { length gutters.now ≤ 256 }
+    requires few_gutters { length gutters.now ≤ MAX_GUTTERS }
     requires low { 1 ≤ height }
-    requires high { height ≤ 8192 }
+    requires high { height ≤ MAX_SIDE }
     requires contained { (outer : Rect) × All (Encloses outer) kept.now.boxes }
     requires ready { F.ready searcher.old }
     ensures ready { F.ready searcher.new }

@@ -1,14 +1,17 @@
 //! The lines that a page may have, as a space to be searched.
 use crate::bound::{is_single, nearest_slope};
 use crate::line::Line;
-use crate::members::{divide, least_round};
+use crate::members::{Division, Winner, divide, least_round};
 use crate::near::near;
 use crate::parts::{halves, listed};
 use crate::span::Span;
 use box_search::{Node, Shape, Space, Step};
 use layout_geom::{Numbers, Rects};
-use layout_limits::OutOfMemory;
-use line_quality::{line_key, point_of, score_at};
+use layout_limits::{MAX_SIDE, OutOfMemory};
+use line_quality::{
+    LEAST_OFFSET, LEAST_SLOPE, MAX_GUTTERS, MAX_SLOPE, OFFSET_MARGIN, Score, line_key, point_of,
+    score_at,
+};
 use std::alloc::Global;
 use std::marker::Model;
 use std::mem;
@@ -16,8 +19,9 @@ use std::mem;
 /// The lines that a page may have, by their slopes and offsets, to be searched for the one of greatest
 /// key: a search for baselines by branch and bound, after Breuel (2002).
 ///
-/// The slopes go from -32 to 32 thousandths, the offsets from 300 rows above the page to 300 rows below.
-/// A line is admitted where its score among the boxes that are alive is at least 60.
+/// The slopes go from `LEAST_SLOPE` to `MAX_SLOPE` thousandths, the offsets from `OFFSET_MARGIN` rows above the page
+/// to as many below it. A line is admitted where its score among the boxes that are alive is at least
+/// `LEAST_SCORE`.
 #[derive(Drop)]
 pub struct Grid {
     boxes: Rects,
@@ -27,17 +31,29 @@ pub struct Grid {
 }
 
 impl Model for Grid {
-    ghost use Rattle.line_search.specs.Problem.{Problem, IsWithinLimits};
+    ghost use Rattle.line_search.specs.Problem.{GridProblem, IsWithinLimits};
 
-    ghost Value = { Problem };
+    ghost Value = { GridProblem };
 
     ghost view = { λ grid. record { height = grid.height; boxes = grid.boxes; alive = grid.alive; gutters = grid.gutters } };
 
-    ghost invariant = { λ grid. IsWithinLimits (record { height = grid.height; boxes = grid.boxes; alive = grid.alive; gutters = grid.gutters }) };
+    ghost invariant = { λ grid. IsWithinLimits
+        (record { height = grid.height; boxes = grid.boxes; alive = grid.alive; gutters = grid.gutters }) };
 }
 
+/// The least score of a line: less than three boxes do not make one.
+pub const LEAST_SCORE: u32 = 60;
+
 /// The least key of a line whose score is enough.
-const LEAST_KEY: u64 = 60 << 23;
+const LEAST_KEY: u64 = (LEAST_SCORE as u64) << 23;
+
+/// A line that is taken out of a grid.
+#[derive(Drop)]
+struct Taken {
+    winner: Winner,
+    score: u32,
+    division: Division,
+}
 
 impl Grid {
     ghost use Rattle.std.specs.Prelude.{◌≡◌, ◌<◌, ◌≤◌, OnOk, IfOk, IfSome, IfNone, length, All};
@@ -45,20 +61,21 @@ impl Grid {
     ghost use Rattle.layout_geom.specs.Rectangles.{Encloses};
     ghost use Rattle.box_search.specs.Search.{IsGreatestKey};
     ghost use Rattle.line_search.specs.Lines.{IsBestLine, without};
-    ghost use Rattle.line_search.specs.Problem.{numbers_of, IsAdmitted};
+    ghost use Rattle.line_search.specs.Problem.{grid_numbers, IsGridKey};
     ghost use Rattle.line_search.specs.Shapes.{IsInGrid};
-    ghost use Rattle.line_search.specs.Bounds.{IsOver, HasReaching, IsNodeIn};
+    ghost use Rattle.line_search.specs.Bounds.{IsOver, HasWeighing, IsGridNode};
     ghost use Rattle.line_search.specs.Parts.{HasNoPoint};
+    ghost use Rattle.line_search.specs.Taken.{IsTaken};
 
     /// The lines of a page with these boxes, scored by those of them at the positions in `alive`. There are
-    /// at most 60,000 boxes, 60,000 positions and 256 gutters, and the height is from 1 to 8192. It takes no
+    /// at most 60,000 boxes, 60,000 positions and `MAX_GUTTERS` gutters, and the height is from 1 to `MAX_SIDE`. It takes no
     /// memory.
     pub fn new(boxes: Rects, alive: Numbers, gutters: Rects, height: u16) -> Grid
         requires low { 1 ≤ height }
-        requires high { height ≤ 8192 }
+        requires high { height ≤ MAX_SIDE }
         requires few_boxes { length boxes ≤ 60000 }
         requires few_alive { length alive ≤ 60000 }
-        requires few_gutters { length gutters ≤ 256 }
+        requires few_gutters { length gutters ≤ MAX_GUTTERS }
         requires positions { All (λ position. position < length boxes) alive }
         ensures height { result.height ≡ height }
         ensures boxes { result.boxes ≡ boxes }
@@ -110,8 +127,8 @@ impl Grid {
     /// its lines.
     fn node_of(&self, alloc: Global, shape: Shape, span: Span) -> Result<Node<Span>, OutOfMemory>
         requires in_grid { IsInGrid self.now.height shape }
-        requires reaching { HasReaching self.now shape span }
-        ensures fitting { IfOk result (λ node. IsNodeIn node self.now) }
+        requires weighing { HasWeighing self.now shape span }
+        ensures fitting { IfOk result (λ node. IsGridNode node self.now) }
         ensures shape { IfOk result (λ node. node.shape ≡ shape) }
     {
         let positions = &self.alive.as_slice()[span.from as usize..span.to as usize];
@@ -135,9 +152,9 @@ impl Grid {
         limit: u64,
     ) -> Result<Option<Node<Span>>, OutOfMemory>
         requires in_grid { IsInGrid self.now.height shape }
-        requires reaching { HasReaching self.now shape span }
+        requires weighing { HasWeighing self.now shape span }
         requires over { IsOver self.now shape limit }
-        ensures fitting { IfOk result (λ part. IfSome part (λ node. IsNodeIn node self.now)) }
+        ensures fitting { IfOk result (λ part. IfSome part (λ node. IsGridNode node self.now)) }
         ensures shape { IfOk result (λ part. IfSome part (λ node. node.shape ≡ shape)) }
         ensures bound { IfOk result (λ part. IfSome part (λ node. node.bound ≤ limit)) }
         ensures none { IfOk result (λ part. IfNone part (HasNoPoint self.now shape)) }
@@ -150,36 +167,58 @@ impl Grid {
         Ok(Some(Node { bound, ..node }))
     }
 
+    /// The line of the greatest key, and which of the positions that are alive are in it.
+    fn best_line(&self, alloc: Global, key: u64) -> Result<Taken, OutOfMemory>
+        requires greatest { IsGreatestKey (IsGridKey (grid_numbers self.now)) key }
+        requires some { 0 < key }
+        requires high { self.now.height ≤ MAX_SIDE }
+        ensures { IfOk result (λ taken. IsTaken self.now key taken.score taken.winner taken.division) }
+    {
+        let (slope, offset) = point_of(key);
+        let Score { score, column } = score_at(
+            slope,
+            offset,
+            &self.boxes,
+            &self.alive,
+            &self.gutters,
+        );
+        let winner = Winner {
+            slope,
+            offset,
+            column,
+        };
+        let division = divide(alloc, &winner, &self.boxes, &self.alive, &self.gutters)?;
+        Ok(Taken {
+            winner,
+            score,
+            division,
+        })
+    }
+
     /// The line of the greatest key, whose members are then alive no more.
     pub(crate) fn take_line(&mut self, alloc: Global, key: u64) -> Result<Line, OutOfMemory>
-        requires greatest { IsGreatestKey (IsAdmitted (numbers_of self.old)) key }
+        requires greatest { IsGreatestKey (IsGridKey (grid_numbers self.old)) key }
         requires some { 0 < key }
-        requires high { self.old.height ≤ 8192 }
+        requires high { self.old.height ≤ MAX_SIDE }
         requires contained { (outer : Rect) × All (Encloses outer) self.old.boxes }
         ensures best { IfOk result (λ line. IsBestLine self.old.boxes self.old.gutters self.old.height self.old.alive line) }
         ensures rest { IfOk result (λ line. self.new ≡ record self.old { alive = without line.members self.old.alive }) }
         ensures fewer { OnOk result (length self.new.alive < length self.old.alive) }
         ensures within { IfOk result (λ line. All (λ member. member < length self.old.boxes) line.members) }
     {
-        let (slope, offset) = point_of(key);
-        let score = score_at(slope, offset, &self.boxes, &self.alive, &self.gutters);
-        let division = divide(
-            alloc,
-            slope,
-            offset,
-            score.column,
-            &self.boxes,
-            &self.alive,
-            &self.gutters,
-        )?;
+        let Taken {
+            winner,
+            score,
+            division,
+        } = self.best_line(alloc, key)?;
         let bbox = least_round(self.boxes.as_slice(), division.members.as_slice());
         self.alive = division.others;
         Ok(Line {
-            slope,
-            offset,
+            slope: winner.slope,
+            offset: winner.offset,
             members: division.members,
             bbox,
-            score: score.score,
+            score,
         })
     }
 }
@@ -187,19 +226,19 @@ impl Grid {
 impl Space for Grid {
     ghost use Rattle.std.specs.Prelude.{◌≡◌, IfOk, IfSome, IsSome};
     ghost use Rattle.box_search.specs.Search.{IsRootOf, IsStepOf};
-    ghost use Rattle.line_search.specs.Problem.{numbers_of, IsAdmitted};
-    ghost use Rattle.line_search.specs.Shapes.{LiesInShape, whole_grid};
+    ghost use Rattle.line_search.specs.Problem.{grid_numbers, IsGridKey};
+    ghost use Rattle.line_search.specs.Shapes.{PointLiesIn, whole_grid};
     ghost use Rattle.line_search.specs.Bounds.{FitsGrid};
     ghost use Rattle.line_search.specs.Parts.{IsGridStep};
     ghost use Rattle.line_search.specs.GridLaws.{grid_positive, grid_bounded};
 
     type Work = Span;
 
-    ghost problem = { numbers_of };
+    ghost problem = { grid_numbers };
 
-    ghost admits = { IsAdmitted };
+    ghost admits = { IsGridKey };
 
-    ghost lies_in = { λ _ key shape. LiesInShape key shape };
+    ghost lies_in = { λ _ key shape. PointLiesIn key shape };
 
     ghost fits = { FitsGrid };
 
@@ -208,16 +247,16 @@ impl Space for Grid {
     ghost bounded = { grid_bounded };
 
     fn root(&self, alloc: Global) -> Result<Option<Node<Span>>, OutOfMemory>
-        ensures root { let p = numbers_of self.now in IfOk result (IsRootOf (IsAdmitted p) LiesInShape (FitsGrid p)) }
+        ensures root { let p = grid_numbers self.now in IfOk result (IsRootOf (IsGridKey p) PointLiesIn (FitsGrid p)) }
         // There always is one, and its shape is the whole grid.
         ensures always { IfOk result (λ root. IsSome root) }
         ensures whole { IfOk result (λ root. IfSome root (λ node. node.shape ≡ whole_grid self.now.height)) }
     {
         let shape = Shape {
-            a0: -32,
-            a1: 33,
-            b0: -300,
-            b1: self.height as i32 + 301,
+            a0: LEAST_SLOPE as i32,
+            a1: MAX_SLOPE as i32 + 1,
+            b0: LEAST_OFFSET as i32,
+            b1: self.height as i32 + OFFSET_MARGIN as i32 + 1,
             c0: 0,
             c1: 1,
         };
@@ -230,8 +269,8 @@ impl Space for Grid {
     }
 
     fn step(&self, alloc: Global, node: &Node<Span>) -> Result<Step<Span>, OutOfMemory>
-        requires fits { FitsGrid (numbers_of self.now) node.now }
-        ensures step { let p = numbers_of self.now in IfOk result (IsStepOf (IsAdmitted p) LiesInShape (FitsGrid p) node.now) }
+        requires fits { FitsGrid (grid_numbers self.now) node.now }
+        ensures step { let p = grid_numbers self.now in IfOk result (IsStepOf (IsGridKey p) PointLiesIn (FitsGrid p) node.now) }
         ensures exactly { IfOk result (IsGridStep self.now node.now.shape) }
     {
         if is_single(&node.shape) {

@@ -18,8 +18,7 @@ mod tests;
 mod windows;
 
 pub use greedy::lines;
-pub use grid::Grid;
+pub use grid::{Grid, LEAST_SCORE};
 pub use law::lines_are_unique;
-pub use layout_limits::OutOfMemory;
 pub use line::{Line, Lines};
 pub use span::Span;

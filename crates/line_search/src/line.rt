@@ -4,7 +4,7 @@ use layout_geom::{Items, Numbers, Rect};
 /// A line of text: a baseline of the grid and the boxes that stand on it.
 #[derive(Drop)]
 pub struct Line {
-    /// The slope of the baseline in thousandths, from -32 to 32, downwards to the right.
+    /// The slope of the baseline in thousandths, from `LEAST_SLOPE` to `MAX_SLOPE`: it sinks to the right where it is positive.
     pub slope: i8,
     /// The height of the baseline at column 0, in rows from the top of the page.
     pub offset: i16,
@@ -12,7 +12,7 @@ pub struct Line {
     pub members: Numbers,
     /// The least rectangle round the boxes.
     pub bbox: Rect,
-    /// What the boxes weigh together, at least 60.
+    /// What the boxes weigh together, at least `LEAST_SCORE`.
     pub score: u32,
 }
 

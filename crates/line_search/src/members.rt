@@ -8,10 +8,21 @@ ghost use Rattle.line_search.specs.Lines.{IsLeastRound};
 
 use layout_geom::{Numbers, Rect, Rects};
 use layout_limits::OutOfMemory;
-use line_quality::{column, middle, weight};
+use line_quality::{MAX_GUTTERS, column, middle, weight};
 use std::alloc::Global;
 
-/// The positions that are in a line, and the others.
+/// A line of the grid, and the column that wins.
+#[derive(Clone, Copy, Debug, PartialEq, Eq)]
+pub(crate) struct Winner {
+    /// The slope of the line in thousandths.
+    pub(crate) slope: i8,
+    /// The offset of the line in rows.
+    pub(crate) offset: i16,
+    /// How many crossed gutters lie left of the column.
+    pub(crate) column: u32,
+}
+
+/// The positions that are in a line, and the others, both in order.
 #[derive(Drop)]
 pub(crate) struct Division {
     pub(crate) members: Numbers,
@@ -19,33 +30,39 @@ pub(crate) struct Division {
 }
 
 /// Whether a box is in the column of a line and has weight for it.
-fn is_member(slope: i8, offset: i16, gutters: &Rects, in_column: u32, rect: &Rect) -> bool
-    requires { length gutters.now ≤ 256 }
-    ensures { result ≡ is_of slope offset gutters.now in_column (Some rect.now) }
+fn is_member(winner: &Winner, gutters: &Rects, rect: &Rect) -> bool
+    requires { length gutters.now ≤ MAX_GUTTERS }
+    ensures { result ≡ is_of winner.now.slope winner.now.offset gutters.now winner.now.column (Some rect.now) }
 {
-    weight(slope, offset, rect) > 0 && column(slope, offset, gutters, middle(rect)) == in_column
+    let Winner {
+        slope,
+        offset,
+        column: winning,
+    } = *winner;
+    weight(slope, offset, rect) > 0 && column(slope, offset, gutters, middle(rect)) == winning
 }
 
 /// Divides the positions that are alive by whether they are in a line.
 pub(crate) fn divide(
     alloc: Global,
-    slope: i8,
-    offset: i16,
-    in_column: u32,
+    winner: &Winner,
     boxes: &Rects,
     alive: &Numbers,
     gutters: &Rects,
 ) -> Result<Division, OutOfMemory>
-    requires few_gutters { length gutters.now ≤ 256 }
+    requires few_gutters { length gutters.now ≤ MAX_GUTTERS }
     requires positions { All (λ position. position < length boxes.now) alive.now }
-    ensures members { IfOk result (λ division. division.members ≡ group_of slope offset boxes.now gutters.now in_column alive.now) }
-    ensures others { IfOk result (λ division. division.others ≡ filter (λ position. not (is_of slope offset gutters.now in_column (slice_get boxes.now position))) alive.now) }
+    ensures members { IfOk result (λ division. division.members
+        ≡ group_of winner.now.slope winner.now.offset boxes.now gutters.now winner.now.column alive.now) }
+    ensures others { IfOk result (λ division. division.others
+        ≡ filter (λ position. not (is_of winner.now.slope winner.now.offset gutters.now winner.now.column
+        (slice_get boxes.now position))) alive.now) }
 {
     let mut members = Numbers::new(alloc);
     let mut others = Numbers::new(alloc);
     for position in alive.as_slice() {
         let rect = boxes.get(*position as usize);
-        if is_member(slope, offset, gutters, in_column, rect) {
+        if is_member(winner, gutters, rect) {
             members.push(*position)?;
         } else {
             others.push(*position)?;

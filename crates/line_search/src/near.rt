@@ -3,15 +3,15 @@ ghost use Rattle.std.specs.Prelude.{◌≡◌, ◌*◌, ◌<◌, ◌≤◌, IfOk
 ghost use Rattle.std.specs.List.{filter, count_by};
 ghost use Rattle.line_quality.specs.Points.{middle_of};
 ghost use Rattle.line_search.specs.Bounds;
-ghost use Rattle.line_search.specs.Bounds.{reaching, stretch_of, HasMost};
+ghost use Rattle.line_search.specs.Bounds.{weighing, stretch_of, HasMost};
 ghost use Rattle.line_search.specs.Shapes.{IsInGrid};
 
-use crate::bound::{all_cross, reach};
+use crate::bound::{all_cross, most_weight};
 use crate::span::Span;
 use box_search::Shape;
 use layout_geom::{Rect, Rects};
-use layout_limits::OutOfMemory;
-use line_quality::{COLUMNS, Score, greatest, middle};
+use layout_limits::{MAX_SIDE, OutOfMemory};
+use line_quality::{MAX_COLUMNS, MAX_GUTTERS, MAX_WEIGHT, Score, greatest, middle};
 use std::alloc::Global;
 
 /// What counts for the lines of a shape.
@@ -25,7 +25,7 @@ pub(crate) struct Nearby {
 
 /// The middles of the gutters that all lines of the shape cross, in the order of the gutters.
 fn sure_middles(alloc: Global, shape: &Shape, gutters: &[Rect]) -> Result<Vec<u16>, OutOfMemory>
-    requires { IsInGrid 8192 shape.now }
+    requires { IsInGrid MAX_SIDE shape.now }
     ensures value { IfOk result (λ middles. middles.items ≡ map middle_of (filter (Bounds.all_cross shape.now) gutters.now)) }
     ensures few { IfOk result (λ middles. length middles.items ≤ length gutters.now) }
 {
@@ -55,22 +55,23 @@ pub(crate) fn near(
     gutters: &Rects,
     positions: &[u32],
 ) -> Result<Nearby, OutOfMemory>
-    requires shape { IsInGrid 8192 shape.now }
-    requires few_gutters { length gutters.now ≤ 256 }
+    requires shape { IsInGrid MAX_SIDE shape.now }
+    requires few_gutters { length gutters.now ≤ MAX_GUTTERS }
     requires few { length positions.now ≤ 60000 }
     requires within { All (λ position. position < length boxes.now) positions.now }
     ensures ordered { IfOk result (λ near. near.span.from ≤ near.span.to) }
     ensures inside { IfOk result (λ near. near.span.to ≤ length positions.now) }
-    ensures reaching { IfOk result (λ near. reaching shape.now boxes.now (stretch_of near.span positions.now) ≡ reaching shape.now boxes.now positions.now) }
+    ensures weighing { IfOk result (λ near. weighing shape.now boxes.now (stretch_of near.span positions.now)
+        ≡ weighing shape.now boxes.now positions.now) }
     ensures most { IfOk result (λ near. HasMost shape.now boxes.now gutters.now positions.now near.score.score near.score.column) }
-    ensures small { IfOk result (λ near. near.score.score ≤ 25 * length positions.now) }
+    ensures small { IfOk result (λ near. near.score.score ≤ MAX_WEIGHT * length positions.now) }
 {
     let middles = sure_middles(alloc, shape, gutters.as_slice())?;
-    let mut sums = [0; COLUMNS];
+    let mut sums = [0; MAX_COLUMNS];
     let mut span = Span { from: 0, to: 0 };
     for (place, position) in positions.iter().enumerate() {
         let rect = boxes.get(*position as usize);
-        let weight = reach(shape, rect);
+        let weight = most_weight(shape, rect);
         if weight > 0 {
             sums[column_among(&middles, middle(rect))] += weight;
             span = span.grown(place as u32);

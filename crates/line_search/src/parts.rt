@@ -7,7 +7,7 @@ ghost use Rattle.line_search.specs.Parts.{AreHalves};
 
 use crate::span::Span;
 use box_search::{Node, Shape};
-use layout_limits::OutOfMemory;
+use layout_limits::{MAX_SIDE, OutOfMemory};
 use std::alloc::Global;
 
 /// The middle of a range, rounded towards the lesser number.
@@ -20,7 +20,7 @@ fn half(low: i16, high: i16) -> i32
 /// The two parts of a shape, which is cut at the middle of its longer range. Any range would do; the
 /// longer one keeps the search short.
 pub(crate) fn halves(shape: &Shape) -> (Shape, Shape)
-    requires in_grid { IsInGrid 8192 shape.now }
+    requires in_grid { IsInGrid MAX_SIDE shape.now }
     requires wide { IsSingle shape.now → ⊥ }
     ensures { AreHalves shape.now result.0 result.1 }
 {

@@ -1,11 +1,11 @@
 //! Ranges of rows in which the feet of boxes stand: what a search of a range of offsets has to look at.
 ghost use Rattle.std.specs.Prelude.{◌≡◌, ◌<◌, ◌≤◌, false, IfOk, IsTrue, Some, length, slice_get, All, Any};
 ghost use Rattle.line_search.specs.Windows;
-ghost use Rattle.line_search.specs.Windows.{stands_in, IsMargin, AreRound};
+ghost use Rattle.line_search.specs.Windows.{stands_in, IsMargin, HaveFeet};
 
 use layout_geom::{Numbers, Rect, Rects};
 use layout_limits::OutOfMemory;
-use line_quality::middle;
+use line_quality::{MAX_SLOPE, OFFSET_MARGIN, middle};
 use std::alloc::Global;
 
 /// The rows from one to another, which is not among them.
@@ -67,22 +67,22 @@ fn margin(boxes: &[Rect]) -> u32
     for rect in boxes {
         farthest = middle(rect).max(farthest);
     }
-    farthest as u32 * 32 / 1000 + 5
+    farthest as u32 * MAX_SLOPE as u32 / 1000 + 5
 }
 
 /// Ranges of rows such that for each offset of a page of this height one of them has the feet of all boxes that
 /// weigh something for a line of that offset. Each serves a range of offsets, two margins long, and goes on for
 /// a margin before and behind it, so that a foot stands in few of them.
 pub(crate) fn all_rows(alloc: Global, boxes: &[Rect], height: u16) -> Result<Vec<Rows>, OutOfMemory>
-    ensures { IfOk result (λ all. AreRound boxes.now height all.items) }
+    ensures { IfOk result (λ all. HaveFeet boxes.now height all.items) }
 {
     let margin = margin(boxes);
     let mut all = Vec::new(alloc);
     let mut first = 0;
-    while first <= height as u32 + 600 {
+    while first <= height as u32 + 2 * OFFSET_MARGIN as u32 {
         let rows = Rows {
-            from: first.saturating_sub(300 + margin),
-            to: (first + 3 * margin).saturating_sub(300),
+            from: first.saturating_sub(OFFSET_MARGIN as u32 + margin),
+            to: (first + 3 * margin).saturating_sub(OFFSET_MARGIN as u32),
         };
         all.push(rows)?;
         first += 2 * margin;

@@ -8,7 +8,7 @@ mod by_chance;
 mod by_hand;
 mod plain;
 
-use layout_geom::{Numbers, Rect, Rects};
+use layout_geom::{Rect, Rects};
 use plain::Sides;
 use std::alloc::Global;
 use std::test::Fail;
@@ -47,16 +47,4 @@ fn boxes_in(alloc: Global, outer: &Rect, all: &[Sides]) -> Result<Rects, Fail>
 /// The sides of a rectangle.
 fn sides_of(rect: &Rect) -> Sides {
     (rect.x0(), rect.y0(), rect.x1(), rect.y1())
-}
-
-/// All positions below a number.
-fn positions(alloc: Global, count: u32) -> Result<Numbers, Fail>
-    ensures within { IfOk result (All (λ position. position < count)) }
-    ensures few { IfOk result (λ alive. length alive ≤ count) }
-{
-    let mut alive = Numbers::new(alloc);
-    for position in 0..count {
-        alive.push(position)?;
-    }
-    Ok(alive)
 }

@@ -8,8 +8,8 @@
 ghost use Rattle.std.specs.Prelude.{◌≡◌, ◌<◌, ◌≤◌, ◌⊎◌, false, IfOk, length, map, slice_get, All, Any};
 ghost use Rattle.box_search.specs.Search.{IsGreatestKey};
 ghost use Rattle.line_search.specs.declared.windows.Window.{Window};
-ghost use Rattle.line_search.specs.Problem.{numbers_of, IsAdmitted};
-ghost use Rattle.line_search.specs.Windows.{stands_in, within, IsSearched, AreRound};
+ghost use Rattle.line_search.specs.Problem.{grid_numbers, IsGridKey};
+ghost use Rattle.line_search.specs.Windows.{stands_in, within, IsSearchedWindow, HaveFeet};
 
 use crate::grid::Grid;
 use crate::rows::{Rows, all_rows, has_one, standing};
@@ -25,7 +25,7 @@ pub(crate) struct Window {
 }
 
 /// Fewer boxes weigh less than a line.
-const LEAST_BOXES: usize = 3;
+const LEAST_MEMBERS: usize = 3;
 
 /// The greatest key of the lines among the boxes alone whose feet stand in the rows.
 fn best_within<F: Searcher<Grid>>(
@@ -37,10 +37,10 @@ fn best_within<F: Searcher<Grid>>(
     requires ready { F.ready searcher.old }
     ensures ready { F.ready searcher.new }
     ensures same { grid.new ≡ grid.old }
-    ensures greatest { IfOk result (λ key. IsGreatestKey (IsAdmitted (numbers_of (within rows grid.old))) key) }
+    ensures greatest { IfOk result (λ key. IsGreatestKey (IsGridKey (grid_numbers (within rows grid.old))) key) }
 {
     let near = standing(alloc, rows, grid.boxes(), grid.alive())?;
-    if near.len() < LEAST_BOXES {
+    if near.len() < LEAST_MEMBERS {
         return Ok(0);
     }
     let alive = grid.replace_alive(near);
@@ -58,8 +58,9 @@ pub(crate) fn first_windows<F: Searcher<Grid>>(
     requires ready { F.ready searcher.old }
     ensures ready { F.ready searcher.new }
     ensures same { grid.new ≡ grid.old }
-    ensures round { IfOk result (λ windows. AreRound grid.old.boxes grid.old.height (map (λ (window : Window). window.rows) windows.items)) }
-    ensures searched { IfOk result (λ windows. All (IsSearched grid.old) windows.items) }
+    ensures round { IfOk result (λ windows. HaveFeet grid.old.boxes grid.old.height
+        (map (λ (window : Window). window.rows) windows.items)) }
+    ensures searched { IfOk result (λ windows. All (IsSearchedWindow grid.old) windows.items) }
 {
     let all = all_rows(alloc, grid.boxes().as_slice(), grid.height())?;
     let mut windows = Vec::new(alloc);
@@ -80,11 +81,13 @@ pub(crate) fn searched_again<F: Searcher<Grid>>(
 ) -> Result<Vec<Window>, OutOfMemory>
     requires ready { F.ready searcher.old }
     requires members { All (λ member. member < length grid.old.boxes) members.now }
-    requires others { All (λ window. All (λ member. stands_in window.rows (slice_get grid.old.boxes member) ≡ false) members.now → IsSearched grid.old window) windows.now }
+    requires others { All (λ window. All (λ member. stands_in window.rows (slice_get grid.old.boxes member) ≡ false) members.now
+        → IsSearchedWindow grid.old window) windows.now }
     ensures ready { F.ready searcher.new }
     ensures same { grid.new ≡ grid.old }
-    ensures rows { IfOk result (λ again. map (λ (window : Window). window.rows) again.items ≡ map (λ (window : Window). window.rows) windows.now) }
-    ensures searched { IfOk result (λ again. All (IsSearched grid.old) again.items) }
+    ensures rows { IfOk result (λ again. map (λ (window : Window). window.rows) again.items
+        ≡ map (λ (window : Window). window.rows) windows.now) }
+    ensures searched { IfOk result (λ again. All (IsSearchedWindow grid.old) again.items) }
 {
     let mut again = Vec::new(alloc);
     for window in windows {

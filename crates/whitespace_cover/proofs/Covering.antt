@@ -8,31 +8,32 @@ use Rattle.layout_geom.specs.declared.rect.Rect.{Rect}
 use Rattle.layout_geom.specs.Keys.{rect_key}
 use Rattle.layout_geom.specs.KeyLaws.{same_key, positive_key}
 use Rattle.box_search.specs.Search.{IsGreatestKey}
+use Rattle.box_search.specs.Problems.{on_numbers, of_numbers}
 use Rattle.whitespace_cover.specs.Admissible.{IsAdmissible, IsFull, IsBestRect}
-use Rattle.whitespace_cover.specs.Problem.{Problem, numbers_of, HasRectOfKey, IsAdmitted}
-use Rattle.whitespace_cover.specs.WhiteLaws.{on_numbers, of_numbers}
+use Rattle.whitespace_cover.specs.Problem.{WhiteProblem, white_numbers, HasRectOfKey, IsWhiteKey}
+use Rattle.whitespace_cover.specs.WhiteLaws.{same_white_problem}
 use Rattle.whitespace_cover.specs.Cover.{EachIsBest}
 
 -- the key is the answer for the problem
-abbrev pub IsAnswer : Problem → ℕ → Type 0
-IsAnswer problem key = IsGreatestKey (IsAdmitted (numbers_of problem)) key
+abbrev pub IsWhiteAnswer : WhiteProblem → ℕ → Type 0
+IsWhiteAnswer problem key = IsGreatestKey (IsWhiteKey (white_numbers problem)) key
 
 -- the key of an admissible rectangle is at most the answer
-under : (problem : Problem) (key : ℕ) (r : Rect) → IsAnswer problem key → IsAdmissible problem.page problem.obstacles problem.least r → rect_key r ≤ key
-under problem key r answer admissible = answer.greatest (rect_key r) (on_numbers (HasRectOfKey (rect_key r)) problem (record { rect = r; has_key = refl; admissible = admissible }))
+under : (problem : WhiteProblem) (key : ℕ) (r : Rect) → IsWhiteAnswer problem key → IsAdmissible problem.page problem.obstacles problem.least r → rect_key r ≤ key
+under problem key r answer admissible = answer.greatest (rect_key r) (on_numbers white_numbers (HasRectOfKey (rect_key r)) problem (record { rect = r; has_key = refl; admissible = admissible }))
 
 -- an answer above 0 is the key of an admissible rectangle
-found : (problem : Problem) (key : ℕ) → IsAnswer problem key → 0 < key → HasRectOfKey key problem
-found problem key answer positive = ⊎_elim (λ (none : key ≡ 0). absurd (omega (arith, none, positive))) (λ (some : IsAdmitted (numbers_of problem) key). of_numbers (HasRectOfKey key) problem some) answer.sound
+found : (problem : WhiteProblem) (key : ℕ) → IsWhiteAnswer problem key → 0 < key → HasRectOfKey key problem
+found problem key answer positive = ⊎_elim (λ (none : key ≡ 0). absurd (omega (arith, none, positive))) (λ (some : IsWhiteKey (white_numbers problem) key). of_numbers white_numbers same_white_problem (HasRectOfKey key) problem some) answer.sound
 
 -- where no rectangle has the answer for its key, none is admissible
-pub full_at : (problem : Problem) (key : ℕ) → IsAnswer problem key → ((r : Rect) → rect_key r ≡ key → ⊥) → IsFull problem.page problem.obstacles problem.least
+pub full_at : (problem : WhiteProblem) (key : ℕ) → IsWhiteAnswer problem key → ((r : Rect) → rect_key r ≡ key → ⊥) → IsFull problem.page problem.obstacles problem.least
 full_at problem key answer none r admissible =
     let has : HasRectOfKey key problem = found problem key answer (omega (arith, under problem key r answer admissible, positive_key r)) in
     none has.rect has.has_key
 
 -- the rectangle whose key is the answer is the best
-pub best_at : (problem : Problem) (key : ℕ) (r : Rect) → IsAnswer problem key → rect_key r ≡ key → IsBestRect problem.page problem.obstacles problem.least r
+pub best_at : (problem : WhiteProblem) (key : ℕ) (r : Rect) → IsWhiteAnswer problem key → rect_key r ≡ key → IsBestRect problem.page problem.obstacles problem.least r
 best_at problem key r answer is =
     let has : HasRectOfKey key problem = found problem key answer (omega (arith, is, positive_key r)) in
     let one : has.rect ≡ r = same_key has.rect r (has.has_key ∙ sym is) in
@@ -52,8 +53,8 @@ each_more page boxes rects least r each best = λ i d within.
     (cases_lt i (length rects))
 
 -- the answer for a problem is the answer for its parts
-pub asked : (problem : Problem) (page : Rect) (obstacles : List Rect) (least : ℕ) (key : ℕ) → problem.page ≡ page → problem.obstacles ≡ obstacles → problem.least ≡ least → IsAnswer problem key → IsAnswer (record { page = page; obstacles = obstacles; least = least }) key
+pub asked : (problem : WhiteProblem) (page : Rect) (obstacles : List Rect) (least : ℕ) (key : ℕ) → problem.page ≡ page → problem.obstacles ≡ obstacles → problem.least ≡ least → IsWhiteAnswer problem key → IsWhiteAnswer (record { page = page; obstacles = obstacles; least = least }) key
 asked problem page obstacles least key p o l answer =
-    subst (λ (n : ℕ). IsAnswer (record { page = page; obstacles = obstacles; least = n }) key) l
-    (subst (λ (xs : List Rect). IsAnswer (record { page = page; obstacles = xs; least = problem.least }) key) o
-    (subst (λ (r : Rect). IsAnswer (record { page = r; obstacles = problem.obstacles; least = problem.least }) key) p answer))
+    subst (λ (n : ℕ). IsWhiteAnswer (record { page = page; obstacles = obstacles; least = n }) key) l
+    (subst (λ (xs : List Rect). IsWhiteAnswer (record { page = page; obstacles = xs; least = problem.least }) key) o
+    (subst (λ (r : Rect). IsWhiteAnswer (record { page = r; obstacles = problem.obstacles; least = problem.least }) key) p answer))

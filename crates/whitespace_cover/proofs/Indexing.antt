@@ -7,21 +7,21 @@ use Rattle.std.proofs.lemmas.Bool.{cases_lt}
 use Rattle.layout_geom.specs.declared.rect.Rect.{Rect}
 use Rattle.layout_geom.specs.Rectangles.{HasPixel, HasSides, Overlaps, Encloses, SharesPixel, IsClear}
 use Rattle.layout_geom.specs.PixelLaws.{shares_pixel, overlaps, has_pixels_of}
-use Rattle.whitespace_cover.specs.Index.{cell_of, list_at, Holds, IsIndex, Adds, IsFromMiddle}
+use Rattle.whitespace_cover.specs.Index.{cell_of, list_at, SomeHasPixel, IsIndex, Adds, IsFromMiddle}
 use Rattle.whitespace_cover.proofs.Barring.{both_clear}
 
 -- one of the rectangles has the pixel
-held_by : (rects : List Rect) (r : Rect) (x y : ℕ) → Contains rects r → HasPixel r x y → Holds rects x y
+held_by : (rects : List Rect) (r : Rect) (x y : ℕ) → Contains rects r → HasPixel r x y → SomeHasPixel rects x y
 held_by rects r x y (k, within, at) has = (k, r, within, at, has)
 
-pub held_before : (xs ys : List Rect) (x y : ℕ) → Holds xs x y → Holds (xs ++ ys) x y
+pub held_before : (xs ys : List Rect) (x y : ℕ) → SomeHasPixel xs x y → SomeHasPixel (xs ++ ys) x y
 held_before xs ys x y (k, r, within, at, has) = held_by (xs ++ ys) r x y (Contains-append_left xs ys r (k, within, at)) has
 
-pub held_last : (xs : List Rect) (r : Rect) (x y : ℕ) → HasPixel r x y → Holds (xs ++ r ∷ []) x y
+pub held_last : (xs : List Rect) (r : Rect) (x y : ℕ) → HasPixel r x y → SomeHasPixel (xs ++ r ∷ []) x y
 held_last xs r x y has = held_by (xs ++ r ∷ []) r x y (Contains-push xs r) has
 
 -- a rectangle of the list round a part has the part's pixels
-pub held_by_outer : (xs : List Rect) (part : Rect) (x y : ℕ) → Any (λ r. Encloses r part) xs → HasPixel part x y → Holds xs x y
+pub held_by_outer : (xs : List Rect) (part : Rect) (x y : ℕ) → Any (λ r. Encloses r part) xs → HasPixel part x y → SomeHasPixel xs x y
 held_by_outer xs part x y (k, r, within, at, round) has = (k, r, within, at, has_pixels_of r part round x y has)
 
 -- the pixels of a rectangle in a cell are in its part there
@@ -33,7 +33,7 @@ in_part rect part column row x y sides has in_column in_row = record {
   to_bottom = omega (arith, sides.bottom, has.to_bottom, in_row);
 }
 
-held_none : (x y : ℕ) → Holds [] x y → ⊥
+held_none : (x y : ℕ) → SomeHasPixel [] x y → ⊥
 held_none x y (k, q, within, at, has) = omega arith
 
 module _ (rect : Rect) where
@@ -58,11 +58,11 @@ module _ (rect : Rect) where
       (λ more. ⊎_elim (λ before. inl before) (λ last. inr (sym last)) (Contains-push_cases old rect r (subst (λ (xs : List Rect). Contains xs r) more there)))
       grown
 
-  grown_kept : (old new : List Rect) → IsGrown old new → (x y : ℕ) → Holds old x y → Holds new x y
+  grown_kept : (old new : List Rect) → IsGrown old new → (x y : ℕ) → SomeHasPixel old x y → SomeHasPixel new x y
   grown_kept old new grown x y held =
       ⊎_elim
-      (λ same. subst (λ (xs : List Rect). Holds xs x y) (sym same) held)
-      (λ more. subst (λ (xs : List Rect). Holds xs x y) (sym more) (held_before old (rect ∷ []) x y held))
+      (λ same. subst (λ (xs : List Rect). SomeHasPixel xs x y) (sym same) held)
+      (λ more. subst (λ (xs : List Rect). SomeHasPixel xs x y) (sym more) (held_before old (rect ∷ []) x y held))
       grown
 
   pub set_here : (lists : List (List Rect)) (i : ℕ) (list : List Rect) → i < length lists → list_at (set lists i list) i ≡ list
@@ -91,31 +91,31 @@ module _ (rect : Rect) where
     kept = λ cell x y held.
         ⊎_elim
         (λ here. let at : list_at (set lists i list) cell ≡ list = ap (λ (k : ℕ). list_at (set lists i list) k) here ∙ set_here lists i list within in
-        subst (λ (xs : List Rect). Holds xs x y) (sym at) (grown_kept (list_at lists i) list grown x y (subst (λ (k : ℕ). Holds (list_at lists k) x y) here held)))
-        (λ other. subst (λ (xs : List Rect). Holds xs x y) (sym (set_there lists i cell list other)) held)
+        subst (λ (xs : List Rect). SomeHasPixel xs x y) (sym at) (grown_kept (list_at lists i) list grown x y (subst (λ (k : ℕ). SomeHasPixel (list_at lists k) x y) here held)))
+        (λ other. subst (λ (xs : List Rect). SomeHasPixel xs x y) (sym (set_there lists i cell list other)) held)
         (place_cases i cell);
   }
 
   -- the pixels of the rectangle before a column of a row of cells are held
   abbrev pub TakenInRow : ℕ → List (List Rect) → ℕ → Type 0
-  TakenInRow row lists column = (x y : ℕ) → HasPixel rect x y → y / 64 ≡ row → x / 64 < column → Holds (list_at lists (cell_of x y)) x y
+  TakenInRow row lists column = (x y : ℕ) → HasPixel rect x y → y / 64 ≡ row → x / 64 < column → SomeHasPixel (list_at lists (cell_of x y)) x y
 
-  pub row_more : (row column : ℕ) (old : List (List Rect)) (list : List Rect) → row * 128 + column < length old → IsGrown (list_at old (row * 128 + column)) list → ((x y : ℕ) → HasPixel rect x y → x / 64 ≡ column → y / 64 ≡ row → Holds list x y) → TakenInRow row old column → TakenInRow row (set old (row * 128 + column) list) (column + 1)
+  pub row_more : (row column : ℕ) (old : List (List Rect)) (list : List Rect) → row * 128 + column < length old → IsGrown (list_at old (row * 128 + column)) list → ((x y : ℕ) → HasPixel rect x y → x / 64 ≡ column → y / 64 ≡ row → SomeHasPixel list x y) → TakenInRow row old column → TakenInRow row (set old (row * 128 + column) list) (column + 1)
   row_more row column old list within grown taken so_far x y has in_row before =
       ⊎_elim
       (λ earlier. (adds_one old (row * 128 + column) list within grown).kept (cell_of x y) x y (so_far x y has in_row earlier))
       (λ here.
       let same : x / 64 ≡ column = omega (arith, here, before) in
       let at : cell_of x y ≡ row * 128 + column = omega (arith, same, in_row) in
-      subst (λ (k : ℕ). Holds (list_at (set old (row * 128 + column) list) k) x y) (sym at)
-      (subst (λ (xs : List Rect). Holds xs x y) (sym (set_here old (row * 128 + column) list within)) (taken x y has same in_row)))
+      subst (λ (k : ℕ). SomeHasPixel (list_at (set old (row * 128 + column) list) k) x y) (sym at)
+      (subst (λ (xs : List Rect). SomeHasPixel xs x y) (sym (set_here old (row * 128 + column) list within)) (taken x y has same in_row)))
       (cases_lt (x / 64) column)
 
   -- the pixels of the rectangle before a row of cells are held
   abbrev pub TakenAbove : List (List Rect) → ℕ → Type 0
-  TakenAbove lists row = (x y : ℕ) → HasPixel rect x y → y / 64 < row → Holds (list_at lists (cell_of x y)) x y
+  TakenAbove lists row = (x y : ℕ) → HasPixel rect x y → y / 64 < row → SomeHasPixel (list_at lists (cell_of x y)) x y
 
-  pub above_more : (row : ℕ) (old new : List (List Rect)) → Adds rect old new → ((x y : ℕ) → HasPixel rect x y → y / 64 ≡ row → Holds (list_at new (cell_of x y)) x y) → TakenAbove old row → TakenAbove new (row + 1)
+  pub above_more : (row : ℕ) (old new : List (List Rect)) → Adds rect old new → ((x y : ℕ) → HasPixel rect x y → y / 64 ≡ row → SomeHasPixel (list_at new (cell_of x y)) x y) → TakenAbove old row → TakenAbove new (row + 1)
   above_more row old new adds taken so_far x y has before =
       ⊎_elim
       (λ earlier. adds.kept (cell_of x y) x y (so_far x y has earlier))
@@ -134,12 +134,12 @@ index_of_none lists whole empty = record {
   complete = λ x y held. absurd (held_none x y held);
 }
 
-held_either : (r : Rect) (rects : List Rect) (x y : ℕ) → Holds (r ∷ rects) x y → HasPixel r x y ⊎ Holds rects x y
+held_either : (r : Rect) (rects : List Rect) (x y : ℕ) → SomeHasPixel (r ∷ rects) x y → HasPixel r x y ⊎ SomeHasPixel rects x y
 held_either r rects x y (zero, q, within, at, has) = inl (subst (λ (s : Rect). HasPixel s x y) (sym at) has)
 held_either r rects x y (suc k, q, within, at, has) = inr (k, q, omega arith, at, has)
 
 -- one rectangle more, the one before the others
-pub index_more : (rects : List Rect) (i : ℕ) (rect : Rect) (old new : List (List Rect)) → i < length rects → rect ≡ get_or rects i rect → IsIndex (drop (i + 1) rects) old → Adds rect old new → ((x y : ℕ) → HasPixel rect x y → Holds (list_at new (cell_of x y)) x y) → IsIndex (drop i rects) new
+pub index_more : (rects : List Rect) (i : ℕ) (rect : Rect) (old new : List (List Rect)) → i < length rects → rect ≡ get_or rects i rect → IsIndex (drop (i + 1) rects) old → Adds rect old new → ((x y : ℕ) → HasPixel rect x y → SomeHasPixel (list_at new (cell_of x y)) x y) → IsIndex (drop i rects) new
 index_more rects i rect old new within is index adds taken =
     let behind : List Rect = drop (i + 1) rects in
     let more : drop i rects ≡ rect ∷ behind = drop-cons rects i rect within ∙ ap (λ (r : Rect). r ∷ drop (suc i) rects) (sym is) ∙ ap (λ (n : ℕ). rect ∷ drop n rects) (sym (add-one i)) in
@@ -177,7 +177,7 @@ pub clear_by_cells : (rects : List Rect) (lists : List (List Rect)) (r : Rect) �
 clear_by_cells rects lists r index clear = λ k d within meets.
     let o : Rect = get_or rects k d in
     let pixel : SharesPixel r o = shares_pixel r o meets in
-    let (j, item, inside, at, has) : Holds (list_at lists (cell_of pixel.x pixel.y)) pixel.x pixel.y =
+    let (j, item, inside, at, has) : SomeHasPixel (list_at lists (cell_of pixel.x pixel.y)) pixel.x pixel.y =
     index.complete pixel.x pixel.y (held_by rects o pixel.x pixel.y (Contains-get_or rects k d within) pixel.in_second) in
     All-contains (λ box. Overlaps r box → ⊥) (list_at lists (cell_of pixel.x pixel.y)) item (clear pixel.x pixel.y pixel.in_first) (j, inside, at)
     (overlaps r item (record { x = pixel.x; y = pixel.y; in_first = pixel.in_first; in_second = has }))

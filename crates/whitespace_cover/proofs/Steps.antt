@@ -12,11 +12,12 @@ use Rattle.layout_geom.specs.KeyLaws.{same_key, no_greater_key}
 use Rattle.box_search.specs.declared.space.Shape.{Shape}
 use Rattle.box_search.specs.declared.space.Node.{Node}
 use Rattle.box_search.specs.Shapes.{size, range_length, at_least_zero}
+use Rattle.box_search.specs.Problems.{on_numbers, of_numbers}
 use Rattle.box_search.specs.Search.{AdmitsNone, IsRoot, Settles, Splits}
 use Rattle.whitespace_cover.specs.Admissible.{IsRoomy}
-use Rattle.whitespace_cover.specs.Problem.{Problem, numbers_of, HasRectOfKey, IsAdmitted}
-use Rattle.whitespace_cover.specs.Regions.{shape_of, IsWithin, LiesInShape, IsNodeOf, IsRectNode, IsNodeIn, FitsWhite, roomy_parts}
-use Rattle.whitespace_cover.specs.WhiteLaws.{on_numbers, of_numbers, enclosed, within_shape}
+use Rattle.whitespace_cover.specs.Problem.{WhiteProblem, white_numbers, HasRectOfKey, IsWhiteKey}
+use Rattle.whitespace_cover.specs.Regions.{shape_of, IsRectWithin, RectLiesIn, IsNodeOf, IsRectNode, IsWhiteNode, FitsWhite, roomy_parts}
+use Rattle.whitespace_cover.specs.WhiteLaws.{same_white_problem, enclosed, within_shape}
 use Rattle.whitespace_cover.proofs.Cutting.{IsSmaller, IsFourSmaller, cut_smaller, kept_all, few_kept}
 use Rattle.whitespace_cover.proofs.Mapped.{All-of_map}
 
@@ -41,40 +42,40 @@ pub outlines_of : (nodes : List (Node Rect)) → All IsRectNode nodes → AllZip
 outlines_of [] all = tt
 outlines_of (node ∷ nodes) all = (All-head IsRectNode node nodes all, outlines_of nodes (All-tail IsRectNode node nodes all))
 
-module _ (p : Problem) where
+module _ (p : WhiteProblem) where
   abbrev Admits : ℕ → Type 0
-  Admits key = IsAdmitted (numbers_of p) key
+  Admits key = IsWhiteKey (white_numbers p) key
 
   abbrev Fits : Node Rect → Type 0
-  Fits node = FitsWhite (numbers_of p) node
+  Fits node = FitsWhite (white_numbers p) node
 
-  pub root_is : (node : Node Rect) → node.work ≡ p.page → IsNodeOf node.work node → IsRoomy p.least p.page → IsRoot Admits LiesInShape Fits node
+  pub root_is : (node : Node Rect) → node.work ≡ p.page → IsNodeOf node.work node → IsRoomy p.least p.page → IsRoot Admits RectLiesIn Fits node
   root_is node whole outline roomy = record {
-    fitting = on_numbers (IsNodeIn node) p (record {
+    fitting = on_numbers white_numbers (IsWhiteNode node) p (record {
       outline = outline;
       inside = subst (λ (r : Rect). Encloses p.page r) (sym whole) (encloses_itself p.page);
       roomy = subst (λ (r : Rect). IsRoomy p.least r) (sym whole) roomy;
     });
     covering = λ key admitted.
-        let has : HasRectOfKey key p = of_numbers (HasRectOfKey key) p admitted in
+        let has : HasRectOfKey key p = of_numbers white_numbers same_white_problem (HasRectOfKey key) p admitted in
         record {
           rect = has.rect;
           has_key = has.has_key;
-          within = subst (λ (s : Shape). IsWithin s has.rect) (sym (outline.shape ∙ ap shape_of whole)) (within_shape p.page has.rect has.admissible.inside);
+          within = subst (λ (s : Shape). IsRectWithin s has.rect) (sym (outline.shape ∙ ap shape_of whole)) (within_shape p.page has.rect has.admissible.inside);
         };
   }
 
   pub none_is : (IsRoomy p.least p.page → ⊥) → AdmitsNone Admits
   none_is small = λ key admitted.
-      let has : HasRectOfKey key p = of_numbers (HasRectOfKey key) p admitted in
+      let has : HasRectOfKey key p = of_numbers white_numbers same_white_problem (HasRectOfKey key) p admitted in
       small (record {
         wide = omega (arith, has.admissible.roomy.wide, has.admissible.inside.left, has.admissible.inside.right);
         high = omega (arith, has.admissible.roomy.high, has.admissible.inside.top, has.admissible.inside.bottom);
       })
 
-  pub settles_is : (node : Node Rect) → IsNodeIn node p → IsClear node.work p.obstacles → Settles Admits LiesInShape Fits node node.bound
+  pub settles_is : (node : Node Rect) → IsWhiteNode node p → IsClear node.work p.obstacles → Settles Admits RectLiesIn Fits node node.bound
   settles_is node fit clear = record {
-    admitted = on_numbers (HasRectOfKey node.bound) p (record {
+    admitted = on_numbers white_numbers (HasRectOfKey node.bound) p (record {
       rect = node.work;
       has_key = sym fit.outline.bound;
       admissible = record { inside = fit.inside; clear = clear; roomy = fit.roomy };
@@ -82,24 +83,24 @@ module _ (p : Problem) where
     inside = record {
       rect = node.work;
       has_key = sym fit.outline.bound;
-      within = subst (λ (s : Shape). IsWithin s node.work) (sym fit.outline.shape) (within_shape node.work node.work (encloses_itself node.work));
+      within = subst (λ (s : Shape). IsRectWithin s node.work) (sym fit.outline.shape) (within_shape node.work node.work (encloses_itself node.work));
     };
     is_bound = refl;
   }
 
   -- a part that is kept: smaller, and at least of the least size
-  record IsKept (r q : Rect) : Type 0 where
+  record IsKeptPart (r q : Rect) : Type 0 where
     pub part : IsSmaller r q
     pub roomy : IsRoomy p.least q
 
-  kept_nodes : (r pivot : Rect) (parts : List (Option Rect)) (nodes : List (Node Rect)) → Overlaps r pivot → IsCut r pivot parts → map rect_of nodes ≡ roomy_parts p.least parts → All (λ node. IsKept r node.work) nodes
+  kept_nodes : (r pivot : Rect) (parts : List (Option Rect)) (nodes : List (Node Rect)) → Overlaps r pivot → IsCut r pivot parts → map rect_of nodes ≡ roomy_parts p.least parts → All (λ node. IsKeptPart r node.work) nodes
   kept_nodes r pivot parts nodes meets cut rects =
-      All-of_map rect_of (IsKept r) nodes
-      (subst (λ (rs : List Rect). All (IsKept r) rs) (sym rects)
-      (kept_all p.least (IsKept r) (IsSmaller r) (λ q part roomy. record { part = part; roomy = roomy }) parts (cut_smaller r pivot meets parts cut).smaller))
+      All-of_map rect_of (IsKeptPart r) nodes
+      (subst (λ (rs : List Rect). All (IsKeptPart r) rs) (sym rects)
+      (kept_all p.least (IsKeptPart r) (IsSmaller r) (λ q part roomy. record { part = part; roomy = roomy }) parts (cut_smaller r pivot meets parts cut).smaller))
 
-  fits_in : (r : Rect) (node : Node Rect) → Encloses p.page r → IsKept r node.work → IsRectNode node → Fits node
-  fits_in r node inside kept outline = on_numbers (IsNodeIn node) p (record {
+  fits_in : (r : Rect) (node : Node Rect) → Encloses p.page r → IsKeptPart r node.work → IsRectNode node → Fits node
+  fits_in r node inside kept outline = on_numbers white_numbers (IsWhiteNode node) p (record {
     outline = outline;
     inside = record {
       left = omega (arith, inside.left, kept.part.inside.left);
@@ -110,29 +111,29 @@ module _ (p : Problem) where
     roomy = kept.roomy;
   })
 
-  found : (key : ℕ) (r : Rect) → rect_key r ≡ key → (nodes : List (Node Rect)) → All IsRectNode nodes → Any (λ node. Encloses node.work r) nodes → Any (λ node. LiesInShape key node.shape) nodes
+  found : (key : ℕ) (r : Rect) → rect_key r ≡ key → (nodes : List (Node Rect)) → All IsRectNode nodes → Any (λ node. Encloses node.work r) nodes → Any (λ node. RectLiesIn key node.shape) nodes
   found key r is nodes outlines (k, node, within, at, round) =
       let outline : IsRectNode node = subst IsRectNode at (outlines k node within) in
-      (k, node, within, at, record { rect = r; has_key = is; within = subst (λ (s : Shape). IsWithin s r) (sym outline.shape) (within_shape node.work r round) })
+      (k, node, within, at, record { rect = r; has_key = is; within = subst (λ (s : Shape). IsRectWithin s r) (sym outline.shape) (within_shape node.work r round) })
 
   -- what the nodes of a split have to be, beside the nodes of the parts
   abbrev pub Covers : Rect → Rect → List (Node Rect) → Type 0
   Covers r pivot nodes = (inner : Rect) → Encloses r inner → (Overlaps inner pivot → ⊥) → IsRoomy p.least inner → Any (λ node. Encloses node.work inner) nodes
 
-  covers_key : (node : Node Rect) (pivot : Rect) (nodes : List (Node Rect)) → IsNodeIn node p → Contains p.obstacles pivot → All IsRectNode nodes → Covers node.work pivot nodes → (key : ℕ) → Admits key → LiesInShape key node.shape → Any (λ part. LiesInShape key part.shape) nodes
+  covers_key : (node : Node Rect) (pivot : Rect) (nodes : List (Node Rect)) → IsWhiteNode node p → Contains p.obstacles pivot → All IsRectNode nodes → Covers node.work pivot nodes → (key : ℕ) → Admits key → RectLiesIn key node.shape → Any (λ part. RectLiesIn key part.shape) nodes
   covers_key node pivot nodes fit there outlines covers key admitted lies =
-      let has : HasRectOfKey key p = of_numbers (HasRectOfKey key) p admitted in
+      let has : HasRectOfKey key p = of_numbers white_numbers same_white_problem (HasRectOfKey key) p admitted in
       let one : lies.rect ≡ has.rect = same_key lies.rect has.rect (lies.has_key ∙ sym has.has_key) in
-      let inside : Encloses node.work lies.rect = enclosed node.work lies.rect (subst (λ (s : Shape). IsWithin s lies.rect) fit.outline.shape lies.within) in
+      let inside : Encloses node.work lies.rect = enclosed node.work lies.rect (subst (λ (s : Shape). IsRectWithin s lies.rect) fit.outline.shape lies.within) in
       found key has.rect has.has_key nodes outlines
       (covers has.rect (subst (λ (q : Rect). Encloses node.work q) one inside)
       (All-contains (λ box. Overlaps has.rect box → ⊥) p.obstacles pivot has.admissible.clear there) has.admissible.roomy)
 
-  pub splits_is : (node : Node Rect) (pivot : Rect) (parts : List (Option Rect)) (nodes : List (Node Rect)) → IsNodeIn node p → Contains p.obstacles pivot → Overlaps node.work pivot → IsCut node.work pivot parts → map rect_of nodes ≡ roomy_parts p.least parts → All IsRectNode nodes → Covers node.work pivot nodes → Splits Admits LiesInShape Fits node nodes
+  pub splits_is : (node : Node Rect) (pivot : Rect) (parts : List (Option Rect)) (nodes : List (Node Rect)) → IsWhiteNode node p → Contains p.obstacles pivot → Overlaps node.work pivot → IsCut node.work pivot parts → map rect_of nodes ≡ roomy_parts p.least parts → All IsRectNode nodes → Covers node.work pivot nodes → Splits Admits RectLiesIn Fits node nodes
   splits_is node pivot parts nodes fit there meets cut rects outlines covers =
       let r : Rect = node.work in
       let four : IsFourSmaller r parts = cut_smaller r pivot meets parts cut in
-      let kept : All (λ part. IsKept r part.work) nodes = kept_nodes r pivot parts nodes meets cut rects in
+      let kept : All (λ part. IsKeptPart r part.work) nodes = kept_nodes r pivot parts nodes meets cut rects in
       record {
         few = omega (arith, few_kept p.least parts, four.four, ap length rects, length-map nodes rect_of);
         fitting = λ k d within. fits_in r (get_or nodes k d) fit.inside (kept k d within) (outlines k d within);

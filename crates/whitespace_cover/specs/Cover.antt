@@ -16,4 +16,5 @@ module _ (page : Rect) (boxes : List Rect) (least : ℕ) where
 
 -- there is one cover of a page behind its boxes
 abbrev pub CoverIsUnique : Type 0
-CoverIsUnique = (page : Rect) (boxes : List Rect) (least count : ℕ) (xs ys : List Rect) → IsCover page boxes least count xs → IsCover page boxes least count ys → xs ≡ ys
+CoverIsUnique = (page : Rect) (boxes : List Rect) (least count : ℕ) (xs ys : List Rect) → IsCover page boxes least count xs
+    → IsCover page boxes least count ys → xs ≡ ys

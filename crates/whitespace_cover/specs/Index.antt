@@ -1,26 +1,27 @@
--- An index of rectangles by the cells of 64 by 64 pixels that they reach into.
+-- An index of rectangles by the cells of `CELL_SIDE` by `CELL_SIDE` pixels that they reach into.
 use Rattle.std.specs.Prelude.{◌≡◌, ℕ, ◌+◌, ◌*◌, ◌/◌, ◌≤◌, ◌⊎◌, List, [], length, take, slice_index_or, Option, IfSome, Any, Contains}
 use Rattle.layout_geom.specs.declared.rect.Rect.{Rect}
 use Rattle.layout_geom.specs.Rectangles.{HasPixel}
 use Rattle.whitespace_cover.specs.declared.cells.Cells.{Cells}
+use Rattle.whitespace_cover.specs.declared.cells.TheConstants.{CELL_SIDE, CELLS_ACROSS, CELL_COUNT}
 
--- the number of the cell of a pixel, where a row has 128 cells
+-- the number of the cell of a pixel, row of cells by row
 abbrev pub cell_of : ℕ → ℕ → ℕ
-cell_of x y = y / 64 * 128 + x / 64
+cell_of x y = y / CELL_SIDE * CELLS_ACROSS + x / CELL_SIDE
 
 -- the rectangles of a cell
 abbrev pub list_at : List (List Rect) → ℕ → List Rect
 list_at lists cell = slice_index_or lists cell []
 
 -- some rectangle of the list has the pixel
-abbrev pub Holds : List Rect → ℕ → ℕ → Type 0
-Holds rects x y = Any (λ r. HasPixel r x y) rects
+abbrev pub SomeHasPixel : List Rect → ℕ → ℕ → Type 0
+SomeHasPixel rects x y = Any (λ r. HasPixel r x y) rects
 
 -- the cells list no other rectangles than these, and each pixel of these is in a rectangle that its cell lists
 pub record IsIndex (rects : List Rect) (lists : List (List Rect)) : Type 0 where
-  pub whole : length lists ≡ 16384
+  pub whole : length lists ≡ CELL_COUNT
   pub only : (cell : ℕ) (r : Rect) → Contains (list_at lists cell) r → Contains rects r
-  pub complete : (x y : ℕ) → Holds rects x y → Holds (list_at lists (cell_of x y)) x y
+  pub complete : (x y : ℕ) → SomeHasPixel rects x y → SomeHasPixel (list_at lists (cell_of x y)) x y
 
 -- the cells are an index of the first of the rectangles
 pub record IsIndexOf (rects : List Rect) (cells : Cells) : Type 0 where
@@ -34,7 +35,7 @@ IsIndexed rects cells = IfSome cells (IsIndexOf rects)
 pub record Adds (rect : Rect) (old new : List (List Rect)) : Type 0 where
   pub whole : length new ≡ length old
   pub only : (cell : ℕ) (r : Rect) → Contains (list_at new cell) r → Contains (list_at old cell) r ⊎ (r ≡ rect)
-  pub kept : (cell x y : ℕ) → Holds (list_at old cell) x y → Holds (list_at new cell) x y
+  pub kept : (cell x y : ℕ) → SomeHasPixel (list_at old cell) x y → SomeHasPixel (list_at new cell) x y
 
 -- the place is the k-th of some places from the first on, when they are taken from the middle outwards
 abbrev pub IsFromMiddle : ℕ → ℕ → ℕ → ℕ → Type 0

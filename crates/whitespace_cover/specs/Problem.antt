@@ -3,29 +3,24 @@ use Rattle.std.specs.Prelude.{◌≡◌, ℕ, ℤ, pos, List, ◌∷◌, ◌++�
 use Rattle.layout_geom.specs.declared.rect.Rect.{Rect}
 use Rattle.layout_geom.specs.Keys.{rect_key}
 use Rattle.layout_geom.specs.BoxNumbers.{box_numbers, boxes_numbers}
+use Rattle.box_search.specs.Problems.{OfProblem}
 use Rattle.whitespace_cover.specs.Admissible.{IsAdmissible}
 
-pub record Problem : Type 0 where
+pub record WhiteProblem : Type 0 where
   pub page : Rect
   pub obstacles : List Rect
   pub least : ℕ
 
 -- the four sides of the page, the least size, and the four sides of each obstacle
-unfoldable pub numbers_of : Problem → List ℤ
-numbers_of problem = box_numbers problem.page ++ (pos problem.least ∷ boxes_numbers problem.obstacles)
-
--- what holds of the problem that the numbers stand for
-pub record OfProblem (P : Problem → Type 0) (numbers : List ℤ) : Type 0 where
-  pub problem : Problem
-  pub stands : numbers_of problem ≡ numbers
-  pub holds : P problem
+unfoldable pub white_numbers : WhiteProblem → List ℤ
+white_numbers problem = box_numbers problem.page ++ (pos problem.least ∷ boxes_numbers problem.obstacles)
 
 -- some admissible rectangle has the key
-pub record HasRectOfKey (key : ℕ) (problem : Problem) : Type 0 where
+pub record HasRectOfKey (key : ℕ) (problem : WhiteProblem) : Type 0 where
   pub rect : Rect
   pub has_key : rect_key rect ≡ key
   pub admissible : IsAdmissible problem.page problem.obstacles problem.least rect
 
 -- the keys that are searched are those of the admissible rectangles
-abbrev pub IsAdmitted : List ℤ → ℕ → Type 0
-IsAdmitted numbers key = OfProblem (HasRectOfKey key) numbers
+abbrev pub IsWhiteKey : List ℤ → ℕ → Type 0
+IsWhiteKey numbers key = OfProblem white_numbers (HasRectOfKey key) numbers

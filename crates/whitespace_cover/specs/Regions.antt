@@ -8,25 +8,26 @@ use Rattle.box_search.specs.declared.space.Shape.{Shape}
 use Rattle.box_search.specs.declared.space.Node.{Node}
 use Rattle.box_search.specs.declared.space.Step.{Step}
 use Rattle.box_search.specs.declared.space.Step.TheVariants.{Settled, Split}
+use Rattle.box_search.specs.Problems.{OfProblem}
 use Rattle.whitespace_cover.specs.Admissible.{IsRoomy}
-use Rattle.whitespace_cover.specs.Problem.{Problem, OfProblem}
+use Rattle.whitespace_cover.specs.Problem.{WhiteProblem, white_numbers}
 
 -- the ranges of the columns and of the rows, and a range of one number
 abbrev pub shape_of : Rect → Shape
 shape_of r = record { a0 = pos r.x0; a1 = pos r.x1; b0 = pos r.y0; b1 = pos r.y1; c0 = pos 0; c1 = pos 1 }
 
 -- the rectangle's columns and rows are in the shape's ranges
-pub record IsWithin (shape : Shape) (r : Rect) : Type 0 where
+pub record IsRectWithin (shape : Shape) (r : Rect) : Type 0 where
   pub left : shape.a0 ≤ℤ pos r.x0
   pub right : pos r.x1 ≤ℤ shape.a1
   pub top : shape.b0 ≤ℤ pos r.y0
   pub bottom : pos r.y1 ≤ℤ shape.b1
 
 -- a key lies in a shape where its rectangle does
-pub record LiesInShape (key : ℕ) (shape : Shape) : Type 0 where
+pub record RectLiesIn (key : ℕ) (shape : Shape) : Type 0 where
   pub rect : Rect
   pub has_key : rect_key rect ≡ key
-  pub within : IsWithin shape rect
+  pub within : IsRectWithin shape rect
 
 -- the node has the rectangle's shape, and its key as the bound
 pub record IsNodeOf (r : Rect) (node : Node Rect) : Type 0 where
@@ -38,13 +39,13 @@ abbrev pub IsRectNode : Node Rect → Type 0
 IsRectNode node = IsNodeOf node.work node
 
 -- and this rectangle lies in the page and has at least the least size
-pub record IsNodeIn (node : Node Rect) (problem : Problem) : Type 0 where
+pub record IsWhiteNode (node : Node Rect) (problem : WhiteProblem) : Type 0 where
   pub outline : IsRectNode node
   pub inside : Encloses problem.page node.work
   pub roomy : IsRoomy problem.least node.work
 
 abbrev pub FitsWhite : List ℤ → Node Rect → Type 0
-FitsWhite numbers node = OfProblem (IsNodeIn node) numbers
+FitsWhite numbers node = OfProblem white_numbers (IsWhiteNode node) numbers
 
 -- the part, where it is there and has at least the least size
 abbrev pub roomy_part : ℕ → Option Rect → Option Rect
@@ -55,7 +56,7 @@ abbrev pub roomy_parts : ℕ → List (Option Rect) → List Rect
 roomy_parts least parts = filter_map (roomy_part least) parts
 
 -- the nodes are those of the roomy parts round an obstacle that overlaps the rectangle
-pub record IsPivotSplit (problem : Problem) (r : Rect) (nodes : List (Node Rect)) : Type 0 where
+pub record IsPivotSplit (problem : WhiteProblem) (r : Rect) (nodes : List (Node Rect)) : Type 0 where
   pub pivot : Rect
   pub parts : List (Option Rect)
   pub present : Contains problem.obstacles pivot
@@ -64,6 +65,6 @@ pub record IsPivotSplit (problem : Problem) (r : Rect) (nodes : List (Node Rect)
   pub outlines : AllZip IsNodeOf (roomy_parts problem.least parts) nodes
 
 -- settled exactly where no obstacle overlaps the rectangle, and else split at a pivot
-abbrev pub IsWhiteStep : Problem → Rect → Step Rect → Type 0
+abbrev pub IsWhiteStep : WhiteProblem → Rect → Step Rect → Type 0
 IsWhiteStep problem r (Settled key) = IsClear r problem.obstacles
 IsWhiteStep problem r (Split nodes) = IsPivotSplit problem r nodes.items

@@ -74,7 +74,7 @@ fn sweep(
     last: &mut [usize],
     least: u16,
 ) -> Result<Vec<Rect>, OutOfMemory>
-    requires { length last.old ≡ 8192 }
+    requires { length last.old ≡ MAX_SIDE }
     ensures same { IfOk result (λ bars. LeaveSame least bars.items rects.now) }
     ensures few { IfOk result (λ bars. length bars.items ≤ 2 * length rects.now) }
 {

@@ -1,22 +1,23 @@
 //! An index of rectangles by cells of 64 by 64 pixels, which finds those that overlap a rectangle.
-ghost use Rattle.std.specs.Prelude.{◌≡◌, ℕ, ◌+◌, ◌*◌, ◌/◌, ◌<◌, ◌≤◌, ◌⊎◌, ◌++◌, ◌∷◌, [], length, All, Any, Contains, IsTrue, IfOk, OnOk, IfSome, IfNone};
+ghost use Rattle.std.specs.Prelude.{◌≡◌, ℕ, ◌+◌, ◌*◌, ◌/◌, ◌<◌, ◌≤◌, ◌⊎◌, ◌++◌, ◌∷◌, [], length, All};
+ghost use Rattle.std.specs.Prelude.{Any, Contains, IsTrue, IfOk, OnOk, IfSome, IfNone};
 ghost use Rattle.layout_geom.specs.declared.rect.Rect.{Rect};
 ghost use Rattle.layout_geom.specs.Rectangles.{HasPixel, Overlaps, Encloses, IsClear};
-ghost use Rattle.whitespace_cover.specs.Index.{cell_of, list_at, Holds, IsIndex, Adds, IsFromMiddle};
+ghost use Rattle.whitespace_cover.specs.Index.{cell_of, list_at, SomeHasPixel, IsIndex, Adds, IsFromMiddle};
 
 use crate::pivot::best_pivot;
 use layout_geom::{Rect, Rects};
-use layout_limits::OutOfMemory;
+use layout_limits::{MAX_SIDE, OutOfMemory};
 use std::alloc::Global;
 
-/// The columns of a cell in pixels, and the rows.
-const SIDE: usize = 64;
+/// The columns of a cell, and its rows.
+const CELL_SIDE: usize = 64;
 
-/// The cells of a row.
-const ACROSS: usize = 128;
+/// The cells of a row of cells, as many as the widest pages need, and the rows of cells.
+const CELLS_ACROSS: usize = MAX_SIDE as usize / CELL_SIDE;
 
-/// All the cells, those of the greatest pages.
-const COUNT: usize = 16384;
+/// All the cells.
+const CELL_COUNT: usize = CELLS_ACROSS * CELLS_ACROSS;
 
 /// An index of the first rectangles of a list.
 #[derive(Drop)]
@@ -29,18 +30,18 @@ pub(crate) struct Cells {
 
 /// The cell that has the pixels of this column or row.
 fn cell(pixel: u16) -> usize
-    ensures { result ≡ pixel / 64 }
+    ensures { result ≡ pixel / CELL_SIDE }
 {
-    pixel as usize / SIDE
+    pixel as usize / CELL_SIDE
 }
 
 /// Cells that list no rectangle.
 fn empty_lists(alloc: Global) -> Result<Vec<Rects>, OutOfMemory>
-    ensures count { IfOk result (λ lists. length lists.items ≡ 16384) }
+    ensures count { IfOk result (λ lists. length lists.items ≡ CELL_COUNT) }
     ensures empty { IfOk result (λ lists. All (λ list. list ≡ []) lists.items) }
 {
-    let mut lists = Vec::with_capacity(alloc, COUNT)?;
-    for _ in 0..COUNT {
+    let mut lists = Vec::with_capacity(alloc, CELL_COUNT)?;
+    for _ in 0..CELL_COUNT {
         lists.push(Rects::new(alloc))?;
     }
     Ok(lists)
@@ -61,17 +62,18 @@ fn some_encloses(rects: &[Rect], part: &Rect) -> bool
 /// Lists a rectangle in a cell that it reaches into, unless one that is listed there has all its pixels in
 /// the cell.
 fn put_in_cell(list: &mut Rects, row: usize, column: usize, rect: &Rect) -> Result<(), OutOfMemory>
-    requires row { row < 128 }
-    requires column { column < 128 }
+    requires row { row < CELLS_ACROSS }
+    requires column { column < CELLS_ACROSS }
     ensures grown { OnOk result ((list.new ≡ list.old) ⊎ (list.new ≡ list.old ++ rect.now ∷ [])) }
-    ensures taken { OnOk result ((x y : ℕ) → HasPixel rect.now x y → x / 64 ≡ column → y / 64 ≡ row → Holds list.new x y) }
+    ensures taken { OnOk result ((x y : ℕ) → HasPixel rect.now x y → x / CELL_SIDE ≡ column → y / CELL_SIDE ≡ row
+        → SomeHasPixel list.new x y) }
 {
-    let (left, top) = ((column * SIDE) as u16, (row * SIDE) as u16);
+    let (left, top) = ((column * CELL_SIDE) as u16, (row * CELL_SIDE) as u16);
     let inside = Rect::new(
         rect.x0().max(left),
         rect.y0().max(top),
-        rect.x1().min(left + SIDE as u16),
-        rect.y1().min(top + SIDE as u16),
+        rect.x1().min(left + CELL_SIDE as u16),
+        rect.y1().min(top + CELL_SIDE as u16),
     );
     if let Some(part) = inside {
         if some_encloses(list.as_slice(), &part) {
@@ -84,22 +86,23 @@ fn put_in_cell(list: &mut Rects, row: usize, column: usize, rect: &Rect) -> Resu
 
 /// Lists a rectangle in the cells of a row.
 fn put_in_row(lists: &mut [Rects], row: usize, rect: &Rect) -> Result<(), OutOfMemory>
-    requires whole { length lists.old ≡ 16384 }
-    requires row { row < 128 }
+    requires whole { length lists.old ≡ CELL_COUNT }
+    requires row { row < CELLS_ACROSS }
     ensures adds { OnOk result (Adds rect.now lists.old lists.new) }
-    ensures taken { OnOk result ((x y : ℕ) → HasPixel rect.now x y → y / 64 ≡ row → Holds (list_at lists.new (cell_of x y)) x y) }
+    ensures taken { OnOk result ((x y : ℕ) → HasPixel rect.now x y → y / CELL_SIDE ≡ row
+        → SomeHasPixel (list_at lists.new (cell_of x y)) x y) }
 {
     for column in cell(rect.x0())..cell(rect.x1() - 1) + 1 {
-        put_in_cell(&mut lists[row * ACROSS + column], row, column, rect)?;
+        put_in_cell(&mut lists[row * CELLS_ACROSS + column], row, column, rect)?;
     }
     Ok(())
 }
 
 /// Lists a rectangle in the cells that it reaches into.
 fn put(lists: &mut [Rects], rect: &Rect) -> Result<(), OutOfMemory>
-    requires { length lists.old ≡ 16384 }
+    requires { length lists.old ≡ CELL_COUNT }
     ensures adds { OnOk result (Adds rect.now lists.old lists.new) }
-    ensures taken { OnOk result ((x y : ℕ) → HasPixel rect.now x y → Holds (list_at lists.new (cell_of x y)) x y) }
+    ensures taken { OnOk result ((x y : ℕ) → HasPixel rect.now x y → SomeHasPixel (list_at lists.new (cell_of x y)) x y) }
 {
     for row in cell(rect.y0())..cell(rect.y1() - 1) + 1 {
         put_in_row(lists, row, rect)?;
@@ -108,8 +111,8 @@ fn put(lists: &mut [Rects], rect: &Rect) -> Result<(), OutOfMemory>
 }
 
 /// Lists rectangles in the cells, the last of them first.
-fn put_all(lists: &mut [Rects], rects: &[Rect]) -> Result<(), OutOfMemory>
-    requires whole { length lists.old ≡ 16384 }
+fn put_rects(lists: &mut [Rects], rects: &[Rect]) -> Result<(), OutOfMemory>
+    requires whole { length lists.old ≡ CELL_COUNT }
     requires empty { All (λ list. list ≡ []) lists.old }
     ensures { OnOk result (IsIndex rects.now lists.new) }
 {
@@ -122,7 +125,7 @@ fn put_all(lists: &mut [Rects], rects: &[Rect]) -> Result<(), OutOfMemory>
 /// The k-th of `count` places from `first` on, taken from the middle outwards.
 fn from_middle(first: usize, count: usize, k: usize) -> usize
     requires within { k < count }
-    requires small { first + count ≤ 128 }
+    requires small { first + count ≤ CELLS_ACROSS }
     ensures place { IsFromMiddle first count k result }
     ensures low { first ≤ result }
     ensures high { result < first + count }
@@ -137,16 +140,17 @@ fn from_middle(first: usize, count: usize, k: usize) -> usize
 
 /// The pivot of a rectangle in the first cell of a row that has one, from the middle outwards.
 fn pivot_in_row(lists: &[Rects], row: usize, least: u16, rect: &Rect) -> Option<Rect>
-    requires whole { length lists.now ≡ 16384 }
-    requires row { row < 128 }
+    requires whole { length lists.now ≡ CELL_COUNT }
+    requires row { row < CELLS_ACROSS }
     ensures some { IfSome result (λ pivot. (cell : ℕ) × Contains (list_at lists.now cell) pivot × Overlaps rect.now pivot) }
-    ensures none { IfNone result ((x y : ℕ) → HasPixel rect.now x y → y / 64 ≡ row → IsClear rect.now (list_at lists.now (cell_of x y))) }
+    ensures none { IfNone result ((x y : ℕ) → HasPixel rect.now x y → y / CELL_SIDE ≡ row
+        → IsClear rect.now (list_at lists.now (cell_of x y))) }
 {
     let first = cell(rect.x0());
     let count = cell(rect.x1() - 1) + 1 - first;
     for k in 0..count {
         let column = from_middle(first, count, k);
-        let list = &lists[row * ACROSS + column];
+        let list = &lists[row * CELLS_ACROSS + column];
         if let Some(pivot) = best_pivot(least, list.as_slice(), rect) {
             return Some(pivot);
         }
@@ -165,7 +169,7 @@ impl Cells {
     {
         let (front, _) = rects.split_at(count);
         let mut lists = empty_lists(alloc)?;
-        put_all(&mut lists, front)?;
+        put_rects(&mut lists, front)?;
         Ok(Cells { count, lists })
     }
 }
@@ -173,7 +177,7 @@ impl Cells {
 /// The pivot of a rectangle among those that the cells list: it is looked for from the middle of the
 /// rectangle outwards, and taken from the first cell that has one.
 pub(crate) fn pivot_in_cells(lists: &[Rects], least: u16, rect: &Rect) -> Option<Rect>
-    requires { length lists.now ≡ 16384 }
+    requires { length lists.now ≡ CELL_COUNT }
     ensures some { IfSome result (λ pivot. (cell : ℕ) × Contains (list_at lists.now cell) pivot × Overlaps rect.now pivot) }
     ensures none { IfNone result ((x y : ℕ) → HasPixel rect.now x y → IsClear rect.now (list_at lists.now (cell_of x y))) }
 {

@@ -9,13 +9,16 @@ use layout_geom::{Rect, Rects};
 use layout_limits::OutOfMemory;
 use std::alloc::Global;
 
+/// The most rectangles of a cover.
+pub const MAX_RECTS: u32 = 256;
+
 /// The greedy cover of the white space of a page, after Breuel (2002): the greatest white rectangle
 /// clear of the boxes, then the greatest one clear of the boxes and of the first, and so on, until
 /// `count` are found or none is left.
 ///
 /// Each rectangle lies in the page, shares no pixel with a box or with a rectangle before it, and is at
 /// least `least` columns wide and `least` rows high. Of rectangles of one area the upper, then the left,
-/// then the narrower is taken. `least` is at least 1, `count` at most 256, and there are at most 60,000
+/// then the narrower is taken. `least` is at least 1, `count` at most `MAX_RECTS`, and there are at most 60,000
 /// boxes. Every search starts from the whole page, behind bars in place of the boxes. The one refusal is
 /// want of memory, after which it may be called again.
 pub fn cover<F: Searcher<White>>(
@@ -27,7 +30,7 @@ pub fn cover<F: Searcher<White>>(
     searcher: &mut F,
 ) -> Result<Rects, OutOfMemory>
     requires least { 1 ≤ least }
-    requires count { count ≤ 256 }
+    requires count { count ≤ MAX_RECTS }
     requires boxes { length boxes.now ≤ 60000 }
     requires ready { F.ready searcher.old }
     ensures ready { F.ready searcher.new }

@@ -5,12 +5,13 @@ ghost use Rattle.whitespace_cover.specs.Index.{IsIndexed};
 
 use crate::cells::{Cells, pivot_in_cells};
 use layout_geom::Rect;
+use layout_limits::MAX_SIDE;
 
 /// The square of the number of pixels of a part of this size, or 0 where the part is not searched,
 /// since it is below the least size.
-fn weight(least: u16, width: u16, height: u16) -> u64
-    requires wide { width ≤ 8192 }
-    requires high { height ≤ 8192 }
+fn effort(least: u16, width: u16, height: u16) -> u64
+    requires wide { width ≤ MAX_SIDE }
+    requires high { height ≤ MAX_SIDE }
     ensures { result ≤ 2 ^ 52 }
 {
     if width < least || height < least {
@@ -23,10 +24,10 @@ fn weight(least: u16, width: u16, height: u16) -> u64
 /// The sum of the squares of what is left to search round a pivot.
 fn left_to_search(least: u16, rect: &Rect, pivot: &Rect) -> u64 {
     let (width, height) = (rect.width(), rect.height());
-    weight(least, pivot.x0().saturating_sub(rect.x0()), height)
-        + weight(least, rect.x1().saturating_sub(pivot.x1()), height)
-        + weight(least, width, pivot.y0().saturating_sub(rect.y0()))
-        + weight(least, width, rect.y1().saturating_sub(pivot.y1()))
+    effort(least, pivot.x0().saturating_sub(rect.x0()), height)
+        + effort(least, rect.x1().saturating_sub(pivot.x1()), height)
+        + effort(least, width, pivot.y0().saturating_sub(rect.y0()))
+        + effort(least, width, rect.y1().saturating_sub(pivot.y1()))
 }
 
 /// Of the obstacles that overlap a rectangle, the first round which least is left to search.

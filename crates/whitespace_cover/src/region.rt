@@ -46,9 +46,11 @@ pub(crate) fn parts(
     pivot: &Rect,
 ) -> Result<Vec<Node<Rect>>, OutOfMemory>
     requires { Overlaps rect.now pivot.now }
-    ensures rects { IfOk result (λ nodes. (parts : List (Option Rect)) × IsCut rect.now pivot.now parts × (map (λ (node : Node Rect). node.work) nodes.items ≡ roomy_parts least parts)) }
+    ensures rects { IfOk result (λ nodes. (parts : List (Option Rect)) × IsCut rect.now pivot.now parts
+        × (map (λ (node : Node Rect). node.work) nodes.items ≡ roomy_parts least parts)) }
     ensures nodes { IfOk result (λ nodes. All IsRectNode nodes.items) }
-    ensures covering { IfOk result (λ nodes. (inner : Rect) → Encloses rect.now inner → (Overlaps inner pivot.now → ⊥) → IsRoomy least inner → Any (λ (node : Node Rect). Encloses node.work inner) nodes.items) }
+    ensures covering { IfOk result (λ nodes. (inner : Rect) → Encloses rect.now inner → (Overlaps inner pivot.now → ⊥)
+        → IsRoomy least inner → Any (λ (node : Node Rect). Encloses node.work inner) nodes.items) }
 {
     let mut nodes = Vec::with_capacity(alloc, 4)?;
     for part in &rect.cut4(pivot) {

@@ -14,6 +14,9 @@ const LOOKED_AT_FIRST: usize = 16;
 
 /// The rectangles of a page that overlap no obstacle and have at least a least size, to be searched
 /// for the one of greatest key: Breuel's search for the greatest white rectangle (2002).
+///
+/// The shape of a node is a rectangle that is to be searched: its first range has the columns and its second the rows, in
+/// pixels and half-open. Its third has the one number 0.
 #[derive(Drop)]
 pub struct White {
     page: Rect,
@@ -24,10 +27,10 @@ pub struct White {
 }
 
 impl Model for White {
-    ghost use Rattle.whitespace_cover.specs.Problem.{Problem};
+    ghost use Rattle.whitespace_cover.specs.Problem.{WhiteProblem};
     ghost use Rattle.whitespace_cover.specs.Index.{IsIndexed};
 
-    ghost Value = { Problem };
+    ghost Value = { WhiteProblem };
 
     ghost view = { λ white. record { page = white.page; obstacles = white.obstacles; least = white.least } };
 
@@ -89,17 +92,17 @@ impl Space for White {
     ghost use Rattle.std.specs.Prelude.{◌<◌, ◌⊎◌, ◌↔◌, IfOk, IsNone, IfSome};
     ghost use Rattle.layout_geom.specs.Rectangles.{width_of, height_of};
     ghost use Rattle.box_search.specs.Search.{IsRootOf, IsStepOf};
-    ghost use Rattle.whitespace_cover.specs.Problem.{numbers_of, IsAdmitted};
-    ghost use Rattle.whitespace_cover.specs.Regions.{LiesInShape, IsNodeOf, FitsWhite, IsWhiteStep};
+    ghost use Rattle.whitespace_cover.specs.Problem.{white_numbers, IsWhiteKey};
+    ghost use Rattle.whitespace_cover.specs.Regions.{RectLiesIn, IsNodeOf, FitsWhite, IsWhiteStep};
     ghost use Rattle.whitespace_cover.specs.WhiteLaws.{white_positive, white_bounded};
 
     type Work = Rect;
 
-    ghost problem = { numbers_of };
+    ghost problem = { white_numbers };
 
-    ghost admits = { IsAdmitted };
+    ghost admits = { IsWhiteKey };
 
-    ghost lies_in = { λ _ key shape. LiesInShape key shape };
+    ghost lies_in = { λ _ key shape. RectLiesIn key shape };
 
     ghost fits = { FitsWhite };
 
@@ -108,9 +111,10 @@ impl Space for White {
     ghost bounded = { white_bounded };
 
     fn root(&self, _alloc: Global) -> Result<Option<Node<Rect>>, OutOfMemory>
-        ensures root { let p = numbers_of self.now in IfOk result (IsRootOf (IsAdmitted p) LiesInShape (FitsWhite p)) }
+        ensures root { let p = white_numbers self.now in IfOk result (IsRootOf (IsWhiteKey p) RectLiesIn (FitsWhite p)) }
         // There is none exactly where the page is below the least size, and else it is the page.
-        ensures none { IfOk result (λ root. IsNone root ↔ ((width_of self.now.page < self.now.least) ⊎ (height_of self.now.page < self.now.least))) }
+        ensures none { IfOk result (λ root. IsNone root
+            ↔ ((width_of self.now.page < self.now.least) ⊎ (height_of self.now.page < self.now.least))) }
         ensures page { IfOk result (λ root. IfSome root (IsNodeOf self.now.page)) }
     {
         if !is_roomy(self.least, &self.page) {
@@ -120,8 +124,8 @@ impl Space for White {
     }
 
     fn step(&self, alloc: Global, node: &Node<Rect>) -> Result<Step<Rect>, OutOfMemory>
-        requires fits { FitsWhite (numbers_of self.now) node.now }
-        ensures step { let p = numbers_of self.now in IfOk result (IsStepOf (IsAdmitted p) LiesInShape (FitsWhite p) node.now) }
+        requires fits { FitsWhite (white_numbers self.now) node.now }
+        ensures step { let p = white_numbers self.now in IfOk result (IsStepOf (IsWhiteKey p) RectLiesIn (FitsWhite p) node.now) }
         ensures exactly { IfOk result (IsWhiteStep self.now node.now.work) }
     {
         let obstacles = self.obstacles.as_slice();

@@ -6,6 +6,7 @@ use box_search::Alone;
 use chance::next_number;
 use components::Kept;
 use layout_geom::Rect;
+use line_quality::MAX_GUTTERS;
 use std::alloc::Global;
 use std::process::Abort;
 use std::test::Fail;
@@ -71,7 +72,7 @@ fn compare_page(
         median: 6,
     };
     let gutters = rects_of(alloc, gutter_sides)?;
-    assert!(rt; kept.boxes.len() <= 60_000 && gutters.len() <= 256);
+    assert!(rt; kept.boxes.len() <= 60_000 && gutters.len() <= MAX_GUTTERS);
     let found = lines(alloc, &kept, &gutters, HEIGHT, &mut Alone)?;
     let mut boxes: Vec<(Sides, bool)> = Vec::new(alloc);
     for box_sides in sides {

@@ -1,10 +1,13 @@
 //! Lines that were worked out by hand.
 use super::plain::Sides;
-use super::{PAGE, boxes_in, positions, rects_of, sides_of};
+use super::{PAGE, boxes_in, rects_of, sides_of};
+use crate::characters::characters;
 use crate::{Grid, Line, lines};
 use box_search::{Alone, Noted, Searcher};
 use components::Kept;
 use layout_geom::Rect;
+use layout_limits::MAX_SIDE;
+use line_quality::MAX_GUTTERS;
 use std::alloc::Global;
 use std::process::Abort;
 use std::test::Fail;
@@ -13,112 +16,69 @@ use std::test::Fail;
 /// which have neighbouring positions, and its box.
 type Wanted = (i8, i16, u32, u32, u32, Sides);
 
-/// The kept boxes of a page, their median height, the gutters, the height of the page and its lines.
+/// A row of glyphs of 10 by 10 pixels: its upper side, and the left sides of the glyphs.
+type Row = (u16, &'static [u16]);
+
+/// The kept boxes of a page, with rows of glyphs behind them, their median height, the gutters, the height of the
+/// page and its lines.
 #[derive(Clone, Copy)]
 struct Case {
     name: &'static str,
     boxes: &'static [Sides],
+    rows: &'static [Row],
     median: u16,
     gutters: &'static [Sides],
     height: u16,
     lines: &'static [Wanted],
 }
 
-const THREE_GLYPHS: [Sides; 3] = [(10, 10, 20, 20), (30, 10, 40, 20), (50, 10, 60, 20)];
+const LINE: [u16; 3] = [10, 30, 50];
 
-const TWO_COLUMNS: [Sides; 18] = [
-    (2, 2, 12, 12),
-    (14, 2, 24, 12),
-    (26, 2, 36, 12),
-    (48, 2, 58, 12),
-    (60, 2, 70, 12),
-    (72, 2, 82, 12),
-    (2, 14, 12, 24),
-    (14, 14, 24, 24),
-    (26, 14, 36, 24),
-    (48, 14, 58, 24),
-    (60, 14, 70, 24),
-    (72, 14, 82, 24),
-    (2, 26, 12, 36),
-    (14, 26, 24, 36),
-    (26, 26, 36, 36),
-    (48, 26, 58, 36),
-    (60, 26, 70, 36),
-    (72, 26, 82, 36),
-];
+const COLUMNS: [u16; 6] = [2, 14, 26, 48, 60, 72];
 
-const HEADED: [Sides; 25] = [
-    (2, 2, 12, 12),
-    (14, 2, 24, 12),
-    (26, 2, 36, 12),
-    (38, 2, 48, 12),
-    (50, 2, 60, 12),
-    (62, 2, 72, 12),
-    (74, 2, 84, 12),
-    (2, 14, 12, 24),
-    (14, 14, 24, 24),
-    (26, 14, 36, 24),
-    (48, 14, 58, 24),
-    (60, 14, 70, 24),
-    (72, 14, 82, 24),
-    (2, 26, 12, 36),
-    (14, 26, 24, 36),
-    (26, 26, 36, 36),
-    (48, 26, 58, 36),
-    (60, 26, 70, 36),
-    (72, 26, 82, 36),
-    (2, 38, 12, 48),
-    (14, 38, 24, 48),
-    (26, 38, 36, 48),
-    (48, 38, 58, 48),
-    (60, 38, 70, 48),
-    (72, 38, 82, 48),
-];
+const HEADING: [u16; 7] = [2, 14, 26, 38, 50, 62, 74];
+
+/// What most of the cases have.
+const USUAL: Case = Case {
+    name: "",
+    boxes: &[],
+    rows: &[],
+    median: 10,
+    gutters: &[],
+    height: 40,
+    lines: &[],
+};
 
 const CASES: [Case; 9] = [
     Case {
         name: "no kept box",
-        boxes: &[],
         median: 0,
-        gutters: &[],
         height: 16,
-        lines: &[],
+        ..USUAL
     },
     Case {
         name: "three glyphs",
-        boxes: &THREE_GLYPHS,
-        median: 10,
-        gutters: &[],
-        height: 40,
+        rows: &[(10, &LINE)],
         lines: &[(0, 20, 75, 0, 3, (10, 10, 60, 20))],
+        ..USUAL
     },
     // The greatest score is 50.
     Case {
         name: "two glyphs",
-        boxes: &[(10, 10, 20, 20), (30, 10, 40, 20)],
-        median: 10,
-        gutters: &[],
-        height: 40,
-        lines: &[],
+        rows: &[(10, &[10, 30])],
+        ..USUAL
     },
     // A rule above the glyphs, with its foot on their line, has not the size of a character.
     Case {
         name: "three glyphs and a rule",
-        boxes: &[
-            (0, 4, 100, 20),
-            (10, 10, 20, 20),
-            (30, 10, 40, 20),
-            (50, 10, 60, 20),
-        ],
-        median: 10,
-        gutters: &[],
-        height: 40,
+        boxes: &[(0, 4, 100, 20)],
+        rows: &[(10, &LINE)],
         lines: &[(0, 20, 75, 1, 3, (10, 10, 60, 20))],
+        ..USUAL
     },
     Case {
         name: "two columns",
-        boxes: &TWO_COLUMNS,
-        median: 10,
+        rows: &[(2, &COLUMNS), (14, &COLUMNS), (26, &COLUMNS)],
         gutters: &[(36, 0, 48, 41)],
         height: 41,
         lines: &[
@@ -129,25 +89,29 @@ const CASES: [Case; 9] = [
             (0, 36, 75, 12, 3, (2, 26, 36, 36)),
             (0, 36, 75, 15, 3, (48, 26, 82, 36)),
         ],
+        ..USUAL
     },
     // Without the gutter each line goes across.
     Case {
         name: "two columns, no gutter",
-        boxes: &TWO_COLUMNS,
-        median: 10,
-        gutters: &[],
+        rows: &[(2, &COLUMNS), (14, &COLUMNS), (26, &COLUMNS)],
         height: 41,
         lines: &[
             (0, 12, 150, 0, 6, (2, 2, 82, 12)),
             (0, 24, 150, 6, 6, (2, 14, 82, 24)),
             (0, 36, 150, 12, 6, (2, 26, 82, 36)),
         ],
+        ..USUAL
     },
     // The feet of the heading stand on the top edge of the gutter, which does not cut it.
     Case {
         name: "heading over two columns",
-        boxes: &HEADED,
-        median: 10,
+        rows: &[
+            (2, &HEADING),
+            (14, &COLUMNS),
+            (26, &COLUMNS),
+            (38, &COLUMNS),
+        ],
         gutters: &[(36, 12, 48, 53)],
         height: 53,
         lines: &[
@@ -159,24 +123,40 @@ const CASES: [Case; 9] = [
             (0, 48, 75, 19, 3, (2, 38, 36, 48)),
             (0, 48, 75, 22, 3, (48, 38, 82, 48)),
         ],
+        ..USUAL
     },
     Case {
         name: "slanted line that sinks",
         boxes: &[(0, 20, 10, 30), (500, 25, 510, 35), (1000, 30, 1010, 40)],
-        median: 10,
-        gutters: &[],
         height: 60,
         lines: &[(10, 30, 75, 0, 3, (0, 20, 1010, 40))],
+        ..USUAL
     },
     Case {
         name: "slanted line that rises",
         boxes: &[(1000, 20, 1010, 30), (500, 25, 510, 35), (0, 30, 10, 40)],
-        median: 10,
-        gutters: &[],
         height: 60,
         lines: &[(-10, 41, 75, 0, 3, (0, 20, 1010, 40))],
+        ..USUAL
     },
 ];
+
+/// The sides of the boxes of a case.
+fn sides_in(alloc: Global, case: &Case) -> Result<Vec<Sides>, Fail> {
+    let mut all = Vec::from_slice(alloc, case.boxes)?;
+    for (top, lefts) in case.rows {
+        put_row(&mut all, *top, lefts)?;
+    }
+    Ok(all)
+}
+
+/// Puts the sides of the glyphs of a row behind the others.
+fn put_row(all: &mut Vec<Sides>, top: u16, lefts: &[u16]) -> Result<(), Fail> {
+    for left in lefts {
+        all.push((*left, top, left.saturating_add(10), top.saturating_add(10)))?;
+    }
+    Ok(())
+}
 
 /// Compares a line with what was worked out.
 fn compare(rt: &impl Abort, name: &str, line: &Line, wanted: Wanted) {
@@ -200,12 +180,12 @@ fn compare_page(rt: &impl Abort, alloc: Global, case: &Case) -> Result<(), Fail>
     let (x0, y0, x1, y1) = PAGE;
     let page = Rect::new(x0, y0, x1, y1).ok_or("no rectangle")?;
     let kept = Kept {
-        boxes: boxes_in(alloc, &page, case.boxes)?,
+        boxes: boxes_in(alloc, &page, &sides_in(alloc, case)?)?,
         median: case.median,
     };
     let gutters = rects_of(alloc, case.gutters)?;
-    assert!(rt; kept.boxes.len() <= 60_000 && gutters.len() <= 256);
-    assert!(rt; 1 <= case.height && case.height <= 8192);
+    assert!(rt; kept.boxes.len() <= 60_000 && gutters.len() <= MAX_GUTTERS);
+    assert!(rt; 1 <= case.height && case.height <= MAX_SIDE);
     let found = lines(alloc, &kept, &gutters, case.height, &mut Alone)?;
     assert_eq!(rt; found.len(), case.lines.len(), "{}", case.name);
     for (line, wanted) in found.as_slice().iter().zip(case.lines) {
@@ -225,13 +205,18 @@ fn lines_by_hand(rt: HostRuntime) -> Result<(), Fail> {
 #[test]
 fn best_line_of_a_grid(rt: HostRuntime) -> Result<(), Fail> {
     // The key of score 75, slope 0 and offset 20, worked out by hand.
-    let cases = [(3, 633_405_119), (2, 0)];
-    for (count, key) in cases {
-        let boxes = rects_of(rt.alloc(), &THREE_GLYPHS)?;
+    let cases = [(LINE.as_slice(), 633_405_119), (&[10, 30], 0)];
+    for (lefts, key) in cases {
+        let mut sides = Vec::new(rt.alloc());
+        put_row(&mut sides, 10, lefts)?;
+        let kept = Kept {
+            boxes: rects_of(rt.alloc(), &sides)?,
+            median: 10,
+        };
         let gutters = rects_of(rt.alloc(), &[])?;
-        let alive = positions(rt.alloc(), count)?;
-        assert!(rt; boxes.len() == 3 && count <= 3 && gutters.len() == 0);
-        let grid = Grid::new(boxes, alive, gutters, 40);
+        assert!(rt; kept.boxes.len() <= 60_000 && gutters.len() == 0);
+        let alive = characters(rt.alloc(), &kept)?;
+        let grid = Grid::new(kept.boxes, alive, gutters, 40);
         assert_eq!(rt; Alone.best(rt.alloc(), &grid)?, key);
         let mut noted = Noted {
             space: &grid,

@@ -2,4 +2,4 @@ use Rattle.hocr_writer.proofs.Joined.{growing}
 use Rattle.hocr_writer.proofs.areas.put_area_line.Goals as goal
 
 pub returns : goal.returns
-returns c = record { grown = rw (c.in_ok-push.ensures.grown, c.in_ok-put_box_front.ensures.grown) (simp growing); }
+returns c = record { grown = rw (c.in_ok-push.ensures.grown, c.in_ok-put_box_front.ensures.grown) (simp growing) }

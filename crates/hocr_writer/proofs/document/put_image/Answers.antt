@@ -8,4 +8,4 @@ pub returns : goal.returns
 returns c =
     let some : c.args.image.now ≡ [] → ⊥ = λ none. absurd (false≢true (sym c.if-is_empty.false ∙ (c.is_empty.ensures.empty).1 none)) in
     let named = image_named c.args.image.now some in
-    record { grown = rw (c.in_ok-push-3.ensures.grown, c.in_ok-push-2.ensures.grown, c.in_ok-push.ensures.grown, c.as_slice.ensures.same, named) (simp growing); }
+    record { grown = rw (c.in_ok-push-3.ensures.grown, c.in_ok-push-2.ensures.grown, c.in_ok-push.ensures.grown, c.as_slice.ensures.same, named) (simp growing) }

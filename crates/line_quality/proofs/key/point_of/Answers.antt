@@ -1,7 +1,7 @@
 use Rattle.std.proofs.Common.{arith, ◌≡◌, ◌≤◌, ◌-◌, ◌+◌, ◌%◌, ◌/◌, ◌-ℤ◌, ℕ, pos, neg_ℤ, to_z, of_z, w8, refl, sym, ◌∙◌}
 use Rattle.std.proofs.lemmas.Int.{ints}
 use Rattle.line_quality.specs.Keys.{rank}
-use Rattle.line_quality.proofs.Decoding.{digits_of, offset_is, odd_slope, even_slope}
+use Rattle.line_quality.proofs.Decoding.{line_digits, offset_is, odd_slope, even_slope}
 use Rattle.line_quality.proofs.key.point_of.Goals as goal
 use Rattle.line_quality.proofs.key.point_of.Goals.{then-rank-eq1, else-rank-eq1}
 
@@ -13,7 +13,7 @@ narrow_below steps few = omega (arith, ints)
 
 pub returns : goal.returns
 returns c = λ score slope offset hs hb is.
-    let d = digits_of c.args.key score slope offset hs hb is in
+    let d = line_digits c.args.key score slope offset hs hb is in
     let r : ℕ = 64 - c.args.key / 65536 % 128 in
     let steps : ℕ = (64 - c.args.key / 65536 % 128 + 1) / 2 in
     let ranked : rank slope ≡ 64 - c.args.key / 65536 % 128 = omega (arith, d.ranks) in

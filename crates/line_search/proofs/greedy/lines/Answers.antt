@@ -4,8 +4,8 @@ use Rattle.layout_geom.specs.Rectangles.{Encloses}
 use Rattle.line_search.specs.declared.rows.Rows.{Rows}
 use Rattle.line_search.specs.declared.windows.Window.{Window}
 use Rattle.line_search.specs.Lines.{characters_of, IsLineList}
-use Rattle.line_search.specs.Problem.{Problem}
-use Rattle.line_search.specs.Windows.{IsSearched, AreRound}
+use Rattle.line_search.specs.Problem.{GridProblem}
+use Rattle.line_search.specs.Windows.{IsSearchedWindow, HaveFeet}
 use Rattle.line_search.proofs.Taking.{none_yet, no_line, ended, one_more}
 use Rattle.line_search.proofs.Rising.{characters_rise, members_rise}
 use Rattle.line_search.proofs.Gathered.{answer_of, others_kept}
@@ -15,13 +15,13 @@ pub loop-alloc-init : goal.loop-alloc-init
 loop-alloc-init g c =
     let found = c.in_ok-windows.ensures in
     let same : c.first_windows.new.grid ≡ c.new-grid.result = found.same in
-    let alive : c.first_windows.new.grid.alive ≡ characters_of c.args.kept.now = let held : c.new-grid.result.alive ≡ characters_of c.args.kept.now = grind (arith, c.new-grid.ensures.alive, c.in_ok-alive.ensures.value) in ap (λ (p : Problem). p.alive) same ∙ held in
+    let alive : c.first_windows.new.grid.alive ≡ characters_of c.args.kept.now = let held : c.new-grid.result.alive ≡ characters_of c.args.kept.now = grind (arith, c.new-grid.ensures.alive, c.in_ok-alive.ensures.value) in ap (λ (p : GridProblem). p.alive) same ∙ held in
     record {
-      boxes = ap (λ (p : Problem). p.boxes) same ∙ c.new-grid.ensures.boxes ∙ c.in_ok-boxes.ensures;
-      gutters = ap (λ (p : Problem). p.gutters) same ∙ c.new-grid.ensures.gutters ∙ c.in_ok-copy_of.ensures;
-      height = ap (λ (p : Problem). p.height) same ∙ c.new-grid.ensures.height;
-      round = subst (λ (p : Problem). AreRound p.boxes p.height (map (λ (window : Window). window.rows) c.in_ok-windows.windows.items)) (sym same) found.round;
-      searched = subst (λ (p : Problem). All (IsSearched p) c.in_ok-windows.windows.items) (sym same) found.searched;
+      boxes = ap (λ (p : GridProblem). p.boxes) same ∙ c.new-grid.ensures.boxes ∙ c.in_ok-boxes.ensures;
+      gutters = ap (λ (p : GridProblem). p.gutters) same ∙ c.new-grid.ensures.gutters ∙ c.in_ok-copy_of.ensures;
+      height = ap (λ (p : GridProblem). p.height) same ∙ c.new-grid.ensures.height;
+      round = subst (λ (p : GridProblem). HaveFeet p.boxes p.height (map (λ (window : Window). window.rows) c.in_ok-windows.windows.items)) (sym same) found.round;
+      searched = subst (λ (p : GridProblem). All (IsSearchedWindow p) c.in_ok-windows.windows.items) (sym same) found.searched;
       ending = none_yet c.args.kept.now.boxes c.args.gutters.now c.args.height (characters_of c.args.kept.now) c.first_windows.new.grid.alive c.new-lines.result alive c.new-lines.ensures.empty;
       ready = c.in_ok-windows.ensures.ready;
     }
@@ -55,20 +55,20 @@ loop-alloc-preserved g c =
     let so_far = c.loop-alloc.invariant in
     let rest = c.in_ok-line.ensures.rest in
     let again = c.in_ok-windows-2.ensures in
-    let boxes : c.searched_again.new.grid.boxes ≡ c.loop-alloc.grid.boxes = ap (λ (p : Problem). p.boxes) again.same ∙ ap (λ (p : Problem). p.boxes) rest in
-    let height : c.searched_again.new.grid.height ≡ c.loop-alloc.grid.height = ap (λ (p : Problem). p.height) again.same ∙ ap (λ (p : Problem). p.height) rest in
+    let boxes : c.searched_again.new.grid.boxes ≡ c.loop-alloc.grid.boxes = ap (λ (p : GridProblem). p.boxes) again.same ∙ ap (λ (p : GridProblem). p.boxes) rest in
+    let height : c.searched_again.new.grid.height ≡ c.loop-alloc.grid.height = ap (λ (p : GridProblem). p.height) again.same ∙ ap (λ (p : GridProblem). p.height) rest in
     let rows : map (λ (window : Window). window.rows) c.in_ok-windows-2.windows.items ≡ map (λ (window : Window). window.rows) c.loop-alloc.windows.items = again.rows ∙ ap (map (λ (window : Window). window.rows)) c.as_slice-in-loop-alloc.ensures.value in
     record {
       boxes = boxes ∙ so_far.boxes;
-      gutters = ap (λ (p : Problem). p.gutters) again.same ∙ ap (λ (p : Problem). p.gutters) rest ∙ so_far.gutters;
+      gutters = ap (λ (p : GridProblem). p.gutters) again.same ∙ ap (λ (p : GridProblem). p.gutters) rest ∙ so_far.gutters;
       height = height ∙ so_far.height;
-      round = subst (λ (bs : List Rect). AreRound bs c.searched_again.new.grid.height (map (λ (window : Window). window.rows) c.in_ok-windows-2.windows.items)) (sym boxes)
-          (subst (λ (h : ℕ). AreRound c.loop-alloc.grid.boxes h (map (λ (window : Window). window.rows) c.in_ok-windows-2.windows.items)) (sym height)
-          (subst (λ (all : List Rows). AreRound c.loop-alloc.grid.boxes c.loop-alloc.grid.height all) (sym rows) so_far.round));
-      searched = subst (λ (p : Problem). All (IsSearched p) c.in_ok-windows-2.windows.items) (sym again.same) again.searched;
+      round = subst (λ (bs : List Rect). HaveFeet bs c.searched_again.new.grid.height (map (λ (window : Window). window.rows) c.in_ok-windows-2.windows.items)) (sym boxes)
+          (subst (λ (h : ℕ). HaveFeet c.loop-alloc.grid.boxes h (map (λ (window : Window). window.rows) c.in_ok-windows-2.windows.items)) (sym height)
+          (subst (λ (all : List Rows). HaveFeet c.loop-alloc.grid.boxes c.loop-alloc.grid.height all) (sym rows) so_far.round));
+      searched = subst (λ (p : GridProblem). All (IsSearchedWindow p) c.in_ok-windows-2.windows.items) (sym again.same) again.searched;
       ending = one_more c.args.kept.now.boxes c.args.gutters.now c.args.height (characters_of c.args.kept.now) c.loop-alloc.grid.alive c.searched_again.new.grid.alive c.in_ok-line.line c.loop-alloc.lines c.push.new.self so_far.ending
           (rw (so_far.boxes, so_far.gutters, so_far.height) at c.in_ok-line.ensures.best)
-          (ap (λ (p : Problem). p.alive) again.same ∙ ap (λ (p : Problem). p.alive) rest)
+          (ap (λ (p : GridProblem). p.alive) again.same ∙ ap (λ (p : GridProblem). p.alive) rest)
           c.in_ok-push.ensures.grown;
       ready = again.ready;
     }

@@ -1,7 +1,7 @@
 use Rattle.std.proofs.Common.{◌≡◌, length, map, All}
 use Rattle.line_search.specs.declared.windows.Window.{Window}
 use Rattle.line_search.specs.Lines.{characters_of}
-use Rattle.line_search.specs.Windows.{IsSearched, AreRound}
+use Rattle.line_search.specs.Windows.{IsSearchedWindow, HaveFeet}
 use Rattle.line_search.proofs.Taking.{EndsWell}
 use Rattle.line_search.proofs.greedy.lines.Given as goal
 
@@ -10,8 +10,8 @@ invariant-loop-alloc g l = record {
   boxes : l.grid.boxes ≡ l.kept.boxes;
   gutters : l.grid.gutters ≡ l.gutters;
   height : l.grid.height ≡ l.height;
-  round : AreRound l.grid.boxes l.grid.height (map (λ (window : Window). window.rows) l.windows.items);
-  searched : All (IsSearched l.grid) l.windows.items;
+  round : HaveFeet l.grid.boxes l.grid.height (map (λ (window : Window). window.rows) l.windows.items);
+  searched : All (IsSearchedWindow l.grid) l.windows.items;
   ending : EndsWell l.kept.boxes l.gutters l.height (characters_of l.kept) l.grid.alive l.lines;
   ready : g.F.Searcher.ready l.searcher;
 }

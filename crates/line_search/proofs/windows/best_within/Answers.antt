@@ -15,6 +15,6 @@ pub replace_alive-alive-requires-clause-positions : goal.replace_alive-alive-req
 replace_alive-alive-requires-clause-positions g c =
     rw c.in_ok-near.ensures.value (All-filter (λ (position : ℕ). stands_in c.args.rows (slice_get c.boxes.result.now position)) (λ (position : ℕ). position < length c.args.grid.now.boxes) c.alive.result.now c.alive.ensures.positions)
 
-pub returns-then-len-lt-LEAST_BOXES-clause-greatest : goal.returns-then-len-lt-LEAST_BOXES-clause-greatest
-returns-then-len-lt-LEAST_BOXES-clause-greatest g c =
-    none_of_few (within c.args.rows c.args.grid.now) (grind (arith, c.if-len-lt-LEAST_BOXES.true, c.len.ensures.value, c.in_ok-near.ensures.value, c.boxes.ensures, c.alive.ensures.value))
+pub returns-then-len-lt-LEAST_MEMBERS-clause-greatest : goal.returns-then-len-lt-LEAST_MEMBERS-clause-greatest
+returns-then-len-lt-LEAST_MEMBERS-clause-greatest g c =
+    none_of_few (within c.args.rows c.args.grid.now) (grind (arith, c.if-len-lt-LEAST_MEMBERS.true, c.len.ensures.value, c.in_ok-near.ensures.value, c.boxes.ensures, c.alive.ensures.value))

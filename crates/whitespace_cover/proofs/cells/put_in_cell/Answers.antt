@@ -1,7 +1,7 @@
 use Rattle.std.proofs.Common.{List, Any, arith, sym, subst}
 use Rattle.layout_geom.specs.declared.rect.Rect.{Rect}
 use Rattle.layout_geom.specs.Rectangles.{Encloses}
-use Rattle.whitespace_cover.specs.Index.{Holds}
+use Rattle.whitespace_cover.specs.Index.{SomeHasPixel}
 use Rattle.whitespace_cover.proofs.Indexing.{held_by_outer, in_part, held_last}
 use Rattle.whitespace_cover.proofs.cells.put_in_cell.Goals as goal
 
@@ -22,4 +22,4 @@ returns-then-some_encloses-clause-taken c = λ x y has in_column in_row.
 
 pub returns-clause-taken : goal.returns-clause-taken
 returns-clause-taken c = λ x y has in_column in_row.
-    subst (λ (xs : List Rect). Holds xs x y) (sym c.in_ok-push.ensures.grown) (held_last c.args.list.now c.args.rect.now x y has)
+    subst (λ (xs : List Rect). SomeHasPixel xs x y) (sym c.in_ok-push.ensures.grown) (held_last c.args.list.now c.args.rect.now x y has)

@@ -1,7 +1,7 @@
 use Rattle.std.proofs.Common.{arith, refl, ◌≡◌, ◌∙◌, ap, subst, sym, ℤ}
 use Rattle.std.proofs.lemmas.Int.{ints}
 use Rattle.line_quality.specs.Points.{IsSlope}
-use Rattle.line_search.specs.Problem.{Problem}
+use Rattle.line_search.specs.Problem.{GridProblem}
 use Rattle.line_search.specs.Shapes.{IsInGrid}
 use Rattle.line_search.specs.Bounds.{stretch_of}
 use Rattle.line_search.proofs.Bounding.{wider, bound_of}
@@ -16,19 +16,19 @@ line_key-requires-clause-slope c =
 
 pub returns-clause-fitting : goal.returns-clause-fitting
 returns-clause-fitting c =
-    let p : Problem = c.args.self.now in
+    let p : GridProblem = c.args.self.now in
     let shape = c.args.shape in
     let grid : IsInGrid 8192 shape = wider p.height shape c.requires.in_grid in
     let offset = in_16 shape.b0 grid.from_offset (omega (arith, ints, grid.some_offset, grid.to_offset)) in
     let slope = nearest_back shape grid c.nearest_slope.result c.nearest_slope.ensures in
-    let boxes = ap (λ (q : Problem). q.boxes) c.self.view_is in
-    let gutters = ap (λ (q : Problem). q.gutters) c.self.view_is in
-    let alive : c.as_slice.result.now ≡ p.alive = c.as_slice.ensures.same ∙ ap (λ (q : Problem). q.alive) c.self.view_is in
+    let boxes = ap (λ (q : GridProblem). q.boxes) c.self.view_is in
+    let gutters = ap (λ (q : GridProblem). q.gutters) c.self.view_is in
+    let alive : c.as_slice.result.now ≡ p.alive = c.as_slice.ensures.same ∙ ap (λ (q : GridProblem). q.alive) c.self.view_is in
     let near = c.in_ok-near.near in
     record {
       in_grid = c.requires.in_grid;
-      bounded = bound_of p shape c.requires.in_grid (stretch_of c.args.span p.alive) c.requires.reaching.same near.score.score near.score.column c.line_key.result
+      bounded = bound_of p shape c.requires.in_grid (stretch_of c.args.span p.alive) c.requires.weighing.same near.score.score near.score.column c.line_key.result
           (rw (boxes, gutters, alive) at c.in_ok-near.ensures.most)
           (c.line_key.ensures.value ∙ rw (slope, offset) refl);
-      near = kept_reaching p shape c.args.span near.span c.requires.reaching c.in_ok-near.ensures.ordered (rw alive at c.in_ok-near.ensures.inside) (rw (boxes, alive) at c.in_ok-near.ensures.reaching);
+      near = kept_reaching p shape c.args.span near.span c.requires.weighing c.in_ok-near.ensures.ordered (rw alive at c.in_ok-near.ensures.inside) (rw (boxes, alive) at c.in_ok-near.ensures.weighing);
     }

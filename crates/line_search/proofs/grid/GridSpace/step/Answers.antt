@@ -20,8 +20,8 @@ part-requires-clause-in_grid c = (handed_on c.args.self.now c.args.node.now c.ha
 pub part-requires-clause-over : goal.part-requires-clause-over
 part-requires-clause-over c = (handed_on c.args.self.now c.args.node.now c.halves.result.0 c.halves.result.1 c.requires.fits c.halves.ensures).0.over
 
-pub part-requires-clause-reaching : goal.part-requires-clause-reaching
-part-requires-clause-reaching c = (handed_on c.args.self.now c.args.node.now c.halves.result.0 c.halves.result.1 c.requires.fits c.halves.ensures).0.reaching
+pub part-requires-clause-weighing : goal.part-requires-clause-weighing
+part-requires-clause-weighing c = (handed_on c.args.self.now c.args.node.now c.halves.result.0 c.halves.result.1 c.requires.fits c.halves.ensures).0.weighing
 
 pub part-requires-2-clause-in_grid : goal.part-requires-2-clause-in_grid
 part-requires-2-clause-in_grid c = (handed_on c.args.self.now c.args.node.now c.halves.result.0 c.halves.result.1 c.requires.fits c.halves.ensures).1.in_grid
@@ -29,8 +29,8 @@ part-requires-2-clause-in_grid c = (handed_on c.args.self.now c.args.node.now c.
 pub part-requires-2-clause-over : goal.part-requires-2-clause-over
 part-requires-2-clause-over c = (handed_on c.args.self.now c.args.node.now c.halves.result.0 c.halves.result.1 c.requires.fits c.halves.ensures).1.over
 
-pub part-requires-2-clause-reaching : goal.part-requires-2-clause-reaching
-part-requires-2-clause-reaching c = (handed_on c.args.self.now c.args.node.now c.halves.result.0 c.halves.result.1 c.requires.fits c.halves.ensures).1.reaching
+pub part-requires-2-clause-weighing : goal.part-requires-2-clause-weighing
+part-requires-2-clause-weighing c = (handed_on c.args.self.now c.args.node.now c.halves.result.0 c.halves.result.1 c.requires.fits c.halves.ensures).1.weighing
 
 pub returns-clause-step : goal.returns-clause-step
 returns-clause-step c =

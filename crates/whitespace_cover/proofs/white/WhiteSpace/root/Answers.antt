@@ -1,18 +1,18 @@
 use Rattle.std.proofs.Common.{◌∙◌, IsTrue, ap, subst}
 use Rattle.whitespace_cover.specs.Admissible.{IsRoomy}
-use Rattle.whitespace_cover.specs.Problem.{Problem}
+use Rattle.whitespace_cover.specs.Problem.{WhiteProblem}
 use Rattle.whitespace_cover.proofs.Steps.{none_is, root_is}
 use Rattle.whitespace_cover.proofs.white.WhiteSpace.root.Goals as goal
 
 pub returns-then-not-is_roomy-clause-root : goal.returns-then-not-is_roomy-clause-root
 returns-then-not-is_roomy-clause-root c =
     none_is c.args.self.now
-    (subst (λ (p : Problem). IsRoomy p.least p.page → ⊥) c.self.view_is
+    (subst (λ (p : WhiteProblem). IsRoomy p.least p.page → ⊥) c.self.view_is
     (λ roomy. let told : IsTrue c.is_roomy.result = c.is_roomy.ensures.roomy.1 roomy in cc))
 
 pub returns-clause-root : goal.returns-clause-root
 returns-clause-root c =
     root_is c.args.self.now c.node_of.result
-    (c.node_of.ensures.rect ∙ ap (λ (q : Problem). q.page) c.self.view_is)
+    (c.node_of.ensures.rect ∙ ap (λ (q : WhiteProblem). q.page) c.self.view_is)
     c.node_of.ensures.outline
-    (subst (λ (q : Problem). IsRoomy q.least q.page) c.self.view_is (c.is_roomy.ensures.roomy.0 c.if-not-is_roomy.false))
+    (subst (λ (q : WhiteProblem). IsRoomy q.least q.page) c.self.view_is (c.is_roomy.ensures.roomy.0 c.if-not-is_roomy.false))

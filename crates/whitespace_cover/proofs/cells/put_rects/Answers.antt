@@ -2,7 +2,7 @@ use Rattle.std.proofs.Common.{◌≡◌, ℕ, ◌+◌, ◌-◌, List, length, ar
 use Rattle.layout_geom.specs.declared.rect.Rect.{Rect}
 use Rattle.whitespace_cover.specs.Index.{IsIndex}
 use Rattle.whitespace_cover.proofs.Indexing.{index_more}
-use Rattle.whitespace_cover.proofs.cells.put_all.Goals as goal
+use Rattle.whitespace_cover.proofs.cells.put_rects.Goals as goal
 
 pub loop-done-preserved : goal.loop-done-preserved
 loop-done-preserved c =

@@ -1,6 +1,6 @@
 use Rattle.std.proofs.Common.{ℕ, ◌*◌, ◌≤◌}
 use Rattle.std.proofs.Math.Nat.{mul-le-mul}
-use Rattle.whitespace_cover.proofs.pivot.weight.Goals as goal
+use Rattle.whitespace_cover.proofs.pivot.effort.Goals as goal
 
 -- a square of at most 8192 times 8192
 square : (w h : ℕ) → w ≤ 8192 → h ≤ 8192 → (w * h) * (w * h) ≤ 4503599627370496

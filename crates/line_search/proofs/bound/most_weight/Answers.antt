@@ -1,7 +1,7 @@
 use Rattle.std.proofs.Common.{arith, ap, ◌∙◌}
 use Rattle.line_quality.specs.Points.{weight_at}
 use Rattle.line_search.proofs.Ranges.{distance_is}
-use Rattle.line_search.proofs.bound.reach.Goals as goal
+use Rattle.line_search.proofs.bound.most_weight.Goals as goal
 
 pub returns-clause-value : goal.returns-clause-value
 returns-clause-value c =
