@@ -1,0 +1,1 @@
+"""From a scan or a PDF to text: what the programs `prepare`, `pages`, `to` and `ocr` share."""

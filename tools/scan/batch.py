@@ -1,0 +1,258 @@
+"""Many pages: each is prepared and laid out, those that are done are passed over, and one that fails stops no other."""
+
+import os
+import shutil
+import subprocess
+import sys
+import threading
+import time
+from concurrent.futures import ThreadPoolExecutor, as_completed
+from dataclasses import dataclass
+
+from .files import write_whole
+from .inputs import Trouble, files_in, sources_of
+from .leptonica import NoLibrary
+from .trouble import advice, words_of_status
+
+TOOLS = os.path.dirname(os.path.dirname(os.path.realpath(__file__)))
+BUILT = os.path.join(os.path.dirname(TOOLS), "crates", "layout1", "out", "layout1")
+
+
+def find_program(named):
+    """The program layout1: the one that is named, that of this folder where it is built, or the one on the path; raises Trouble."""
+    program = named or (BUILT if os.access(BUILT, os.X_OK) else shutil.which("layout1"))
+    if not program:
+        raise Trouble("layout1 is not built and not on the path: ./demo builds it")
+    if not (os.path.isfile(program) and os.access(program, os.X_OK)):
+        raise Trouble(f"{program} is no program")
+    return program
+
+
+@dataclass
+class Page:
+    """A page of an input, and the names of its files without their endings."""
+
+    source: object
+    path: str
+
+    def file(self, ending):
+        return f"{self.path}.{ending}"
+
+    def is_done(self):
+        """Its document is there, and younger than the file that it is of."""
+        try:
+            return os.path.getmtime(self.file("hocr")) >= os.path.getmtime(self.source.file)
+        except OSError:
+            return False
+
+
+class Batch:
+    """One run over all inputs of a command line."""
+
+    def __init__(self, plan):
+        self.plan = plan
+        self.failed = []
+        self.done = 0
+        self.passed = 0
+        self.stopped = threading.Event()
+        self.children = set()
+        self.lock = threading.Lock()
+
+    def run(self):
+        """Does it, and answers the exit status."""
+        plan = self.plan
+        try:
+            self.program = find_program(plan.layout1)
+            os.makedirs(plan.output, exist_ok=True)
+            pages = self.find_pages()
+            self.log = open(os.path.join(plan.output, "log.tsv"), "a", encoding="utf-8", buffering=1)
+        except (Trouble, NoLibrary) as fault:
+            print(f"pages: {fault}", file=sys.stderr)
+            return 1
+        except OSError as fault:
+            print(f"pages: {fault.filename}: {fault.strerror}", file=sys.stderr)
+            return 1
+        with self.log:
+            try:
+                self.work(pages)
+            except KeyboardInterrupt:
+                self.stop()
+                print(f"\npages: broken off; {self.done} page(s) were laid out: the same words go on from there", file=sys.stderr)
+                return 130
+        return self.tell()
+
+    def find_pages(self):
+        """The pages of all inputs that are still to be done."""
+        files, missing = files_in(self.plan.inputs)
+        for name in missing:
+            self.fail(name, "it is not there")
+        pages, taken = [], set()
+        for file in files:
+            try:
+                sources = sources_of(file)
+            except Trouble as fault:
+                self.fail(file, str(fault))
+                continue
+            for source in sources:
+                page = Page(source, os.path.join(self.plan.output, unused(source.stem(), taken)))
+                if page.is_done():
+                    self.passed += 1
+                else:
+                    pages.append(page)
+        return pages
+
+    def work(self, pages):
+        """All pages: each prepared and laid out by a thread, or all prepared and then laid out on several machines."""
+        one = self.prepare if self.plan.sshlogin else self.whole
+        ready = []
+        with bar(len(pages), self.plan.quiet) as progress, ThreadPoolExecutor(self.plan.jobs) as pool:
+            futures = {pool.submit(self.timed, one, page): page for page in pages}
+            try:
+                for future in as_completed(futures):
+                    if future.result():
+                        ready.append(futures[future])
+                    progress.update(1)
+            except KeyboardInterrupt:
+                self.stopped.set()
+                pool.shutdown(wait=False, cancel_futures=True)
+                self.stop()
+                raise
+        if self.plan.sshlogin and ready:
+            self.far(ready)
+
+    def timed(self, one, page):
+        """One page: true where it went well."""
+        began = time.monotonic()
+        try:
+            if self.stopped.is_set():
+                return False
+            note = one(page)
+        except Trouble as fault:
+            self.fail(str(page.source), str(fault), time.monotonic() - began)
+            return False
+        except OSError as fault:
+            self.fail(str(page.source), f"{fault.filename or page.path}: {fault.strerror}", time.monotonic() - began)
+            return False
+        if not self.plan.sshlogin:
+            self.done += 1
+        self.note(page.source, time.monotonic() - began, note)
+        return True
+
+    def whole(self, page):
+        note = self.prepare(page)
+        self.lay_out(page)
+        return note
+
+    def prepare(self, page):
+        """Makes the page's PBM, and answers what was done to it."""
+        if self.plan.plain:
+            if page.source.count != 1:
+                raise Trouble("--plain takes PBM pages alone")
+            with open(page.source.file, "rb") as file:
+                write_whole(page.file("pbm"), file.read())
+            return "as it is"
+        words = [sys.executable, os.path.join(TOOLS, "prepare"), "--page", str(page.source.number), "-o", page.file("pbm")]
+        if self.plan.without:
+            words += ["--without", self.plan.without]
+        if self.plan.resolution:
+            words += ["--resolution", str(self.plan.resolution)]
+        status, out, err = self.child([*words, page.source.file])
+        if status != 0:
+            lines = err.decode(errors="replace").strip().splitlines() or [words_of_status(status)]
+            raise Trouble(lines[-1].removeprefix("prepare: ").removeprefix(f"{page.source.file}: "))
+        return out.decode(errors="replace").strip()
+
+    def options(self):
+        return [] if self.plan.rects is None else ["--rects", str(self.plan.rects)]
+
+    def lay_out(self, page):
+        """Writes the page's document; raises Trouble."""
+        with open(page.file("pbm"), "rb") as file:
+            status, out, err = self.child([self.program, *self.options()], file)
+        if status != 0:
+            raise Trouble(advice(status, err.decode(errors="replace").strip()))
+        write_whole(page.file("hocr"), out)
+
+    def child(self, words, stdin=subprocess.DEVNULL):
+        """What a program of ours answers: its status and both its streams. It is ended with this run."""
+        with subprocess.Popen(words, stdin=stdin, stdout=subprocess.PIPE, stderr=subprocess.PIPE, start_new_session=True) as process:
+            with self.lock:
+                self.children.add(process)
+            try:
+                out, err = process.communicate()
+            finally:
+                with self.lock:
+                    self.children.discard(process)
+        return process.returncode, out, err
+
+    def stop(self):
+        with self.lock:
+            for process in self.children:
+                process.kill()
+
+    def far(self, pages):
+        """The layouts of prepared pages on several machines, by GNU parallel."""
+        command = 'layout1 %s < {} > {.}.part && mv {.}.part {.}.hocr' % " ".join(self.options())
+        words = ["parallel", "--null", "--sshlogin", self.plan.sshlogin, "--transferfile", "{}", "--return", "{.}.hocr", "--cleanup"]
+        names = b"\0".join(os.fsencode(page.file("pbm")) for page in pages)
+        try:
+            subprocess.run([*words, "-j", str(self.plan.jobs), command], input=names, check=False)
+        except FileNotFoundError as fault:
+            raise Trouble("GNU parallel is not there: tools/setup installs it") from fault
+        for page in pages:
+            if page.is_done():
+                self.done += 1
+            else:
+                self.fail(str(page.source), "no machine made its document")
+
+    def note(self, source, seconds, words):
+        with self.lock:
+            self.log.write(f"{source}\t{seconds:.2f}\t{words}\n")
+
+    def fail(self, name, words, seconds=0.0):
+        with self.lock:
+            self.failed.append((name, words))
+            if hasattr(self, "log"):
+                self.log.write(f"{name}\t{seconds:.2f}\tno document: {words}\n")
+
+    def tell(self):
+        """The list at the end."""
+        passed = f", {self.passed} were there already" if self.passed else ""
+        stream = sys.stderr if self.failed else sys.stdout
+        print(f"pages: {self.done} laid out{passed}, {len(self.failed)} without a document", file=stream)
+        for name, words in sorted(self.failed):
+            print(f"  {name}: {words}", file=stream)
+        return 1 if self.failed else 0
+
+
+def unused(stem, taken):
+    """The stem, or where another page has that name already one with a number behind it."""
+    name, number = stem, 2
+    while name in taken:
+        name, number = f"{stem}.{number}", number + 1
+    taken.add(name)
+    return name
+
+
+def bar(count, quiet):
+    """A bar with the time left, on a terminal."""
+    if quiet or not sys.stderr.isatty():
+        return Silent()
+    try:
+        from tqdm import tqdm
+    except ModuleNotFoundError:
+        return Silent()
+    return tqdm(total=count, unit="page", smoothing=0.1)
+
+
+class Silent:
+    """A bar that shows nothing."""
+
+    def __enter__(self):
+        return self
+
+    def __exit__(self, *_):
+        return False
+
+    def update(self, _):
+        pass

@@ -1,0 +1,28 @@
+"""What went wrong with a page, in a person's words, and what helps."""
+
+import re
+
+HELP = {
+    3: "make the page again",
+    5: "look at the disk or the pipe, and run again",
+    6: "the disk is full or the folder cannot be written",
+    7: "there was not enough memory: fewer at a time (-j)",
+}
+
+
+def words_of_status(status):
+    """How a program ended that said nothing."""
+    return f"it was killed by signal {-status}" if status < 0 else f"it ended with status {status}"
+
+
+def advice(status, line):
+    """What layout1's line on standard error means, and what to do."""
+    many = re.fullmatch(r"limit: (\d+) components", line)
+    if many:
+        return f"{int(many.group(1)):,} marks are over the limit of 60,000: it is full of grain or of a photograph; prepare it with all steps, or scan it at fewer dots per inch"
+    size = re.fullmatch(r"limit: size (\d+) by (\d+)", line)
+    if size:
+        return f"{int(size.group(1)):,} by {int(size.group(2)):,} pixels are over the limit of 8,192 a side and 33,554,432 in all: scan it at fewer dots per inch"
+    helps = HELP.get(status)
+    told = line or words_of_status(status)
+    return f"{told}; {helps}" if helps else told
