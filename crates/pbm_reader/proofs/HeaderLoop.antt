@@ -11,11 +11,10 @@ use Rattle.pbm_reader.specs.declared.state.HeaderState.{HeaderState}
 use Rattle.pbm_reader.specs.declared.state.HeaderState.TheVariants.{Magic, Kind, Named, WidthGap, WidthComment, Width, HeightGap, HeightComment, Height, Whole}
 use Rattle.pbm_reader.specs.Page.{IsPageSize}
 use Rattle.pbm_reader.specs.Spelling.{IsHeader}
-use Rattle.pbm_reader.specs.Header.{next_state, wrong_byte, missing_byte}
+use Rattle.pbm_reader.specs.Header.{next_state, wrong_byte, missing_byte, TookSizes, TookHeader}
 use Rattle.pbm_reader.specs.Fault.{HasFault, HasFaultWithin, IsSizeFault, DecidesNothing, IsTruncated, IsHeaderTooLong}
 use Rattle.layout_outside.specs.Views.{SourceView}
 use Rattle.layout_outside.specs.Taken.{Took, TookAll}
-use Rattle.pbm_reader.specs.Left.{TookSizes, TookHeader}
 use Rattle.pbm_reader.specs.Reading.{Refuses}
 use Rattle.pbm_reader.proofs.Taken.{took_more, took_no_more, took_all, prepend_nothing, of_all, of_end}
 use Rattle.pbm_reader.proofs.Machines.{run, run_append, IsOpen}

@@ -18,7 +18,7 @@ use Rattle.pbm_reader.specs.Raster.{RasterFails, TookRaster, GivenTopRows}
 use Rattle.pbm_reader.specs.Tail.{TailFails, TookTail}
 use Rattle.layout_outside.specs.Views.{SourceView}
 use Rattle.layout_outside.specs.Taken.{Took, TookAll}
-use Rattle.pbm_reader.specs.Left.{feed_view, TookHeader}
+use Rattle.pbm_reader.specs.Header.{TookHeader}
 use Rattle.pbm_reader.specs.Reading.{HasReadCause, ReadsPage, Refuses}
 use Rattle.pbm_reader.proofs.Taken.{took_more, took_all, prepend_nothing, of_all, of_end, all_left}
 use Rattle.pbm_reader.proofs.Faults.{raster_ends}
@@ -281,40 +281,6 @@ page_read begun given old middle later new header end before empty after t b r q
       height_is = r.height_is;
       sink = record { empty = empty; begins = subst C (sym r.height_is) (subst B (sym r.width_is) b); rows = subst R (sym r.height_is) r.gives };
     }
-
--- ---- a feed that begins empty
-
-pub from_empty : (old : SourceView) (first : List ℕ) → first ≡ [] → (feed_view old first).left ≡ old.left
-from_empty old first e = ap (λ (l : List ℕ). prepend_known l old.left) e ∙ sym (prepend_nothing old.left)
-
--- where the end was answered nothing is left in the feed
-unfed : (old source : SourceView) (unread bytes : List ℕ) → TookAll old (feed_view source unread) bytes → TookAll old source bytes
-unfed old source [] bytes t =
-    let s = sym (prepend_nothing source.left) in
-    record {
-      took = t.took ∙ ap (λ (k : Option (List ℕ)). prepend_known bytes k) s;
-      end = record { nothing = subst IsAtEnd s t.end.nothing; answered = t.end.answered };
-    }
-unfed old source (byte ∷ unread) bytes t = absurd (never t.end.answered)
-  where
-    never : false ≡ true → ⊥
-    never e = cc
-
-pub page_from : {Sink : Type 0} (begun : Sink → ℕ → ℕ → Sink → Type 0) (given : Sink → List ℕ → Sink → Type 0) (old source : SourceView) (first unread : List ℕ)
-    (before after : Sink) (result : Result Size PageFault) → first ≡ [] → IfOk result (ReadsPage begun given (feed_view old first) (feed_view source unread) before after)
-    → IfOk result (ReadsPage begun given old source before after)
-page_from begun given old source first unread before after (Ok size) e r =
-    let all = unfed (feed_view old first) source unread r.input r.took in
-    record {
-      input = r.input;
-      page = r.page;
-      took = record { took = sym (from_empty old first e) ∙ all.took; end = all.end };
-      spells = r.spells;
-      width_is = r.width_is;
-      height_is = r.height_is;
-      sink = r.sink;
-    }
-page_from begun given old source first unread before after (Err fault) e r = tt
 
 -- ---- what spells a page is read
 

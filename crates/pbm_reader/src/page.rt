@@ -7,11 +7,10 @@ ghost use Rattle.pbm_reader.specs.Raster.{GivenTopRows, RasterFails, TookRaster}
 ghost use Rattle.pbm_reader.specs.Spelling.{IsPage};
 ghost use Rattle.pbm_reader.specs.Fault.{HasFault};
 ghost use Rattle.pbm_reader.specs.Given.{AfterFault};
-ghost use Rattle.pbm_reader.specs.Left.{feed_view};
 ghost use Rattle.pbm_reader.specs.Reading.{AnswersFault, HasReadCause, ReadsPage, Refuses};
 
 use crate::fault::{PageFault, Size};
-use crate::feed::Feed;
+use crate::feed::{Feed, Piece};
 use crate::form::Form;
 use crate::header::{Header, read_header};
 use crate::plain::read_plain_raster;
@@ -45,28 +44,30 @@ pub fn read_page<S: Source, R: RowSink>(
     ensures faulty { (input : List ℕ) (fault : PageFault) → (S.view src.old).left ≡ Some input → HasFault input fault
         → ¬ Rose (S.view src.old).faults (S.view src.new).faults → AnswersFault fault result }
 {
-    let mut feed = Feed::new(alloc)?;
-    read_from(alloc, src, &mut feed, rows)
+    let mut feed = Feed::new(src, Piece::new(alloc)?);
+    let result = read_from(alloc, &mut feed, rows);
+    feed.into_source();
+    result
 }
 
 /// Reads a page out of a feed.
 fn read_from<S: Source, R: RowSink>(
     alloc: Global,
-    src: &mut S,
-    feed: &mut Feed,
+    feed: &mut Feed<'_, S>,
     rows: &mut R,
 ) -> Result<Size, PageFault>
-    ensures page { IfOk result (ReadsPage R.begun R.given (feed_view (S.view src.old) feed.old)
-        (feed_view (S.view src.new) feed.new) rows.old rows.new) }
-    ensures fault { IfErr result (Refuses (feed_view (S.view src.old) feed.old) (feed_view (S.view src.new) feed.new)) }
-    ensures top { OnErr result (AfterFault R.begun R.given R.unchanged (feed_view (S.view src.old) feed.old).left rows.old rows.new) }
-    ensures drained { result ≡ Err PageFault.ReadFault → feed.new ≡ [] }
-    ensures cause { HasReadCause (S.view src.old) (S.view src.new) result }
+    ensures page { IfOk result (ReadsPage R.begun R.given feed.old.source
+        feed.new.source rows.old rows.new) }
+    ensures fault { IfErr result (Refuses feed.old.source feed.new.source) }
+    ensures top { OnErr result (AfterFault R.begun R.given R.unchanged feed.old.source.left rows.old rows.new) }
+    ensures drained { result ≡ Err PageFault.ReadFault → feed.new.unread ≡ [] }
+    ensures same { feed.new.borrow ≡ feed.old.borrow }
+    ensures cause { HasReadCause feed.old.source feed.new.source result }
 {
-    let header = read_header(src, feed)?;
+    let header = read_header(feed)?;
     rows.begin(header.size.width, header.size.height)?;
-    let end = read_raster(alloc, src, feed, header, rows)?;
-    read_tail(src, feed, header.form, end)?;
+    let end = read_raster(alloc, feed, header, rows)?;
+    read_tail(feed, header.form, end)?;
     Ok(header.size)
 }
 
@@ -74,8 +75,7 @@ fn read_from<S: Source, R: RowSink>(
 /// the offset of their end.
 fn read_raster<S: Source, R: RowSink>(
     alloc: Global,
-    src: &mut S,
-    feed: &mut Feed,
+    feed: &mut Feed<'_, S>,
     header: Header,
     rows: &mut R,
 ) -> Result<u64, PageFault>
@@ -83,17 +83,18 @@ fn read_raster<S: Source, R: RowSink>(
     requires size { IsPageSize header.size.width header.size.height }
     requires width { R.width_of rows.old ≡ header.size.width }
     requires rows { R.rows_left rows.old ≡ header.size.height }
-    ensures ok { IfOk result (λ end. TookRaster R.given (feed_view (S.view src.old) feed.old)
-        (feed_view (S.view src.new) feed.new) header.form header.size.width header.size.height header.len end rows.old rows.new) }
-    ensures fault { IfErr result (RasterFails (feed_view (S.view src.old) feed.old)
-        (feed_view (S.view src.new) feed.new) header.form header.size.width header.size.height header.len) }
+    ensures ok { IfOk result (λ end. TookRaster R.given feed.old.source
+        feed.new.source header.form header.size.width header.size.height header.len end rows.old rows.new) }
+    ensures fault { IfErr result (RasterFails feed.old.source
+        feed.new.source header.form header.size.width header.size.height header.len) }
     ensures top { OnErr result (GivenTopRows R.given R.unchanged header.form header.size.width header.size.height
-        (feed_view (S.view src.old) feed.old) rows.old rows.new) }
-    ensures drained { result ≡ Err PageFault.ReadFault → feed.new ≡ [] }
-    ensures cause { HasReadCause (S.view src.old) (S.view src.new) result }
+        feed.old.source rows.old rows.new) }
+    ensures drained { result ≡ Err PageFault.ReadFault → feed.new.unread ≡ [] }
+    ensures same { feed.new.borrow ≡ feed.old.borrow }
+    ensures cause { HasReadCause feed.old.source feed.new.source result }
 {
     match header.form {
-        Form::Plain => read_plain_raster(alloc, src, feed, header, rows),
-        Form::Raw => read_raw_raster(alloc, src, feed, header, rows),
+        Form::Plain => read_plain_raster(alloc, feed, header, rows),
+        Form::Raw => read_raw_raster(alloc, feed, header, rows),
     }
 }

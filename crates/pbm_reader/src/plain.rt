@@ -3,13 +3,12 @@ ghost use Rattle.std.specs.Prelude.{◌≡◌, ◌≤◌, ◌<◌, ◌+◌, ◌/
 ghost use Rattle.pbm_reader.specs.Page.{IsPageSize, pixel, row_len};
 ghost use Rattle.pbm_reader.specs.declared.form.Form.TheVariants.{Plain};
 ghost use Rattle.pbm_reader.specs.Reading.{HasReadCause};
-ghost use Rattle.pbm_reader.specs.Left.{feed_view};
 ghost use Rattle.pbm_reader.specs.Given.{Stays};
 ghost use Rattle.pbm_reader.specs.Plain.{pixel_step, bit_of, PixelsFail, TakesPixels, TookPixels, TookRow};
 ghost use Rattle.pbm_reader.specs.Raster.{GivenTopRows, RasterFails, TookRaster};
 
 use crate::fault::PageFault;
-use crate::feed::{Feed, next_byte};
+use crate::feed::Feed;
 use crate::form::{is_line_end, is_white};
 use crate::header::Header;
 use crate::raster::row_len;
@@ -55,17 +54,18 @@ fn pixel_step(in_comment: bool, byte: u8) -> PixelStep
 }
 
 /// Reads the next pixel, before which white bytes and comments may stand, from this offset on.
-fn next_pixel<S: Source>(src: &mut S, feed: &mut Feed, start: u64) -> Result<Pixel, PageFault>
+fn next_pixel<S: Source>(feed: &mut Feed<'_, S>, start: u64) -> Result<Pixel, PageFault>
     requires low { start ≤ 268435456 }
-    ensures pixel { IfOk result (λ pixel. TookPixels (feed_view (S.view src.old) feed.old)
-        (feed_view (S.view src.new) feed.new) start pixel.end (bit_of pixel.is_black ∷ [])) }
-    ensures fault { IfErr result (PixelsFail (feed_view (S.view src.old) feed.old) (feed_view (S.view src.new) feed.new) start 1) }
-    ensures drained { result ≡ Err PageFault.ReadFault → feed.new ≡ [] }
-    ensures cause { HasReadCause (S.view src.old) (S.view src.new) result }
+    ensures pixel { IfOk result (λ pixel. TookPixels feed.old.source
+        feed.new.source start pixel.end (bit_of pixel.is_black ∷ [])) }
+    ensures fault { IfErr result (PixelsFail feed.old.source feed.new.source start 1) }
+    ensures drained { result ≡ Err PageFault.ReadFault → feed.new.unread ≡ [] }
+    ensures same { feed.new.borrow ≡ feed.old.borrow }
+    ensures cause { HasReadCause feed.old.source feed.new.source result }
 {
     let mut in_comment = false;
     for at in start..MAX_INPUT {
-        let Some(byte) = next_byte(src, feed)? else {
+        let Some(byte) = feed.next_byte()? else {
             return Err(PageFault::Truncated { at });
         };
         match pixel_step(in_comment, byte) {
@@ -79,7 +79,7 @@ fn next_pixel<S: Source>(src: &mut S, feed: &mut Feed, start: u64) -> Result<Pix
             PixelStep::Wrong => return Err(PageFault::Pixel { at }),
         }
     }
-    match next_byte(src, feed)? {
+    match feed.next_byte()? {
         Some(_) => Err(PageFault::InputTooLong),
         None => Err(PageFault::Truncated { at: MAX_INPUT }),
     }
@@ -100,26 +100,26 @@ fn put_pixel(row: &mut [u8], x: u16, is_black: bool)
 /// Reads the pixels of a row, which begin at this offset, packs them, and answers the offset of
 /// their end.
 fn fill_pixels<S: Source>(
-    src: &mut S,
-    feed: &mut Feed,
+    feed: &mut Feed<'_, S>,
     row: &mut [u8],
     width: u16,
     start: u64,
 ) -> Result<u64, PageFault>
     requires low { start ≤ 268435456 }
     requires len { length row.old ≡ row_len width }
-    ensures ok { IfOk result (λ end. TookRow (feed_view (S.view src.old) feed.old)
-        (feed_view (S.view src.new) feed.new) start end width row.new) }
-    ensures fault { IfErr result (PixelsFail (feed_view (S.view src.old) feed.old)
-        (feed_view (S.view src.new) feed.new) start width) }
+    ensures ok { IfOk result (λ end. TookRow feed.old.source
+        feed.new.source start end width row.new) }
+    ensures fault { IfErr result (PixelsFail feed.old.source
+        feed.new.source start width) }
     ensures len { length row.new ≡ length row.old }
-    ensures drained { result ≡ Err PageFault.ReadFault → feed.new ≡ [] }
-    ensures cause { HasReadCause (S.view src.old) (S.view src.new) result }
+    ensures drained { result ≡ Err PageFault.ReadFault → feed.new.unread ≡ [] }
+    ensures same { feed.new.borrow ≡ feed.old.borrow }
+    ensures cause { HasReadCause feed.old.source feed.new.source result }
 {
     row.fill(0);
     let mut at = start;
     for x in 0..width {
-        let pixel = next_pixel(src, feed, at)?;
+        let pixel = next_pixel(feed, at)?;
         put_pixel(row, x, pixel.is_black);
         at = pixel.end;
     }
@@ -129,8 +129,7 @@ fn fill_pixels<S: Source>(
 /// Reads a row of pixels, which begin at this offset, gives it to the sink, and answers the offset of
 /// its end.
 fn read_pixels<S: Source, R: RowSink>(
-    src: &mut S,
-    feed: &mut Feed,
+    feed: &mut Feed<'_, S>,
     row: &mut [u8],
     width: u16,
     start: u64,
@@ -140,18 +139,19 @@ fn read_pixels<S: Source, R: RowSink>(
     requires len { length row.old ≡ row_len width }
     requires width { R.width_of rows.old ≡ width }
     requires more { 0 < R.rows_left rows.old }
-    ensures ok { IfOk result (λ end. TakesPixels R.given (feed_view (S.view src.old) feed.old)
-        (feed_view (S.view src.new) feed.new) start end width rows.old rows.new) }
+    ensures ok { IfOk result (λ end. TakesPixels R.given feed.old.source
+        feed.new.source start end width rows.old rows.new) }
     ensures len { length row.new ≡ length row.old }
     ensures width { OnOk result (R.width_of rows.new ≡ width) }
     ensures rows { OnOk result (R.rows_left rows.new + 1 ≡ R.rows_left rows.old) }
-    ensures fault { IfErr result (PixelsFail (feed_view (S.view src.old) feed.old)
-        (feed_view (S.view src.new) feed.new) start width) }
+    ensures fault { IfErr result (PixelsFail feed.old.source
+        feed.new.source start width) }
     ensures stays { OnErr result (Stays R.unchanged rows.old rows.new) }
-    ensures drained { result ≡ Err PageFault.ReadFault → feed.new ≡ [] }
-    ensures cause { HasReadCause (S.view src.old) (S.view src.new) result }
+    ensures drained { result ≡ Err PageFault.ReadFault → feed.new.unread ≡ [] }
+    ensures same { feed.new.borrow ≡ feed.old.borrow }
+    ensures cause { HasReadCause feed.old.source feed.new.source result }
 {
-    let end = fill_pixels(src, feed, row, width, start)?;
+    let end = fill_pixels(feed, row, width, start)?;
     rows.row(row)?;
     Ok(end)
 }
@@ -159,8 +159,7 @@ fn read_pixels<S: Source, R: RowSink>(
 /// Reads the rows of a plain raster, gives each to the sink, and answers the offset of their end.
 pub(crate) fn read_plain_raster<S: Source, R: RowSink>(
     alloc: Global,
-    src: &mut S,
-    feed: &mut Feed,
+    feed: &mut Feed<'_, S>,
     header: Header,
     rows: &mut R,
 ) -> Result<u64, PageFault>
@@ -168,20 +167,21 @@ pub(crate) fn read_plain_raster<S: Source, R: RowSink>(
     requires size { IsPageSize header.size.width header.size.height }
     requires width { R.width_of rows.old ≡ header.size.width }
     requires rows { R.rows_left rows.old ≡ header.size.height }
-    ensures ok { IfOk result (λ end. TookRaster R.given (feed_view (S.view src.old) feed.old)
-        (feed_view (S.view src.new) feed.new) Plain header.size.width header.size.height header.len end rows.old rows.new) }
-    ensures fault { IfErr result (RasterFails (feed_view (S.view src.old) feed.old)
-        (feed_view (S.view src.new) feed.new) Plain header.size.width header.size.height header.len) }
+    ensures ok { IfOk result (λ end. TookRaster R.given feed.old.source
+        feed.new.source Plain header.size.width header.size.height header.len end rows.old rows.new) }
+    ensures fault { IfErr result (RasterFails feed.old.source
+        feed.new.source Plain header.size.width header.size.height header.len) }
     ensures top { OnErr result (GivenTopRows R.given R.unchanged Plain header.size.width header.size.height
-        (feed_view (S.view src.old) feed.old) rows.old rows.new) }
-    ensures drained { result ≡ Err PageFault.ReadFault → feed.new ≡ [] }
-    ensures cause { HasReadCause (S.view src.old) (S.view src.new) result }
+        feed.old.source rows.old rows.new) }
+    ensures drained { result ≡ Err PageFault.ReadFault → feed.new.unread ≡ [] }
+    ensures same { feed.new.borrow ≡ feed.old.borrow }
+    ensures cause { HasReadCause feed.old.source feed.new.source result }
 {
     let len = row_len(header.size.width);
     let mut row = vec![in alloc; 0; len]?;
     let mut at = header.len;
     for _y in 0..header.size.height {
-        at = read_pixels(src, feed, &mut row, header.size.width, at, rows)?;
+        at = read_pixels(feed, &mut row, header.size.width, at, rows)?;
     }
     Ok(at)
 }
