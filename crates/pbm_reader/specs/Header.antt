@@ -2,6 +2,7 @@
 use Rattle.std.specs.Prelude.{ℕ, ◌+◌, ◌-◌, ◌*◌, ◌==◌, min, Option, Some, None, option_map, if◌then◌else◌, ◌≡◌, ◌≤◌, List, length}
 use Rattle.layout_outside.specs.Views.{SourceView}
 use Rattle.layout_outside.specs.Taken.{Took}
+use Rattle.pbm_reader.specs.declared.limits.TheConstants.{MAX_HEADER, MAX_NUMBER}
 use Rattle.pbm_reader.specs.declared.header.Header.{Header}
 use Rattle.pbm_reader.specs.declared.header.Told.{Told}
 use Rattle.pbm_reader.specs.Page.{IsPageSize}
@@ -19,7 +20,7 @@ form_of byte = if byte == 49 then Some Plain else if byte == 52 then Some Raw el
 
 -- the number with one more digit behind it; numbers above 999,999,999 aren't told apart
 abbrev pub longer : ℕ → ℕ → ℕ
-longer number digit = min (10 * number + (digit - 48)) 999999999
+longer number digit = min (10 * number + (digit - 48)) MAX_NUMBER
 
 abbrev pub with_digit : ℕ → ℕ → Option ℕ
 with_digit number byte = if is_digit byte then Some (longer number byte) else None
@@ -65,10 +66,10 @@ pub record TookSizes (old new : SourceView) (told : Told) : Type 0 where
   pub width : ℕ
   pub height : ℕ
   pub is_header : IsHeader bytes told.form width height
-  pub width_told : told.width ≡ min width 999999999
-  pub height_told : told.height ≡ min height 999999999
+  pub width_told : told.width ≡ min width MAX_NUMBER
+  pub height_told : told.height ≡ min height MAX_NUMBER
   pub len : told.len ≡ length bytes
-  pub short : length bytes ≤ 65536
+  pub short : length bytes ≤ MAX_HEADER
 
 -- a header that a page can have was taken, of at most 65,536 bytes
 pub record TookHeader (old new : SourceView) (header : Header) : Type 0 where
@@ -77,4 +78,4 @@ pub record TookHeader (old new : SourceView) (header : Header) : Type 0 where
   pub is_header : IsHeader bytes header.form header.size.width header.size.height
   pub size : IsPageSize header.size.width header.size.height
   pub len : header.len ≡ length bytes
-  pub short : length bytes ≤ 65536
+  pub short : length bytes ≤ MAX_HEADER

@@ -1,5 +1,6 @@
 -- Reading the pixels of a plain raster.
 use Rattle.std.specs.Prelude.{◌≡◌, ◌<◌, ◌≤◌, ℕ, ◌+◌, Bool, true, false, not, ◌==◌, List, [], ◌∷◌, ◌++◌, length, slice_index, Option, ⊤, if◌then◌else◌}
+use Rattle.pbm_reader.specs.declared.limits.TheConstants.{MAX_INPUT}
 use Rattle.pbm_reader.specs.declared.fault.PageFault.{PageFault}
 use Rattle.pbm_reader.specs.declared.fault.PageFault.TheVariants as faults
 use Rattle.pbm_reader.specs.declared.plain.PixelStep.{PixelStep}
@@ -30,7 +31,7 @@ pub record TookPixels (old new : SourceView) (start end : ℕ) (pixels : List �
   pub took : Took old new bytes
   pub spelled : SpellsPixels pixels bytes
   pub end_is : end ≡ start + length bytes
-  pub low : end ≤ 268435456
+  pub low : end ≤ MAX_INPUT
 
 -- the bytes are fewer pixels than this, and a part of what stands before the next
 pub record PixelsBegun (count : ℕ) (in_comment : Bool) (bytes : List ℕ) : Type 0 where
@@ -45,14 +46,14 @@ pub record PixelsBegun (count : ℕ) (in_comment : Bool) (bytes : List ℕ) : Ty
 -- why fewer pixels than this were read, from this offset on
 abbrev pub PixelsFail : SourceView → SourceView → ℕ → ℕ → PageFault → Type 0
 PixelsFail old new start count (faults.Truncated end) =
-    (in_comment : Bool) × (bytes : List ℕ) × TookAll old new bytes × PixelsBegun count in_comment bytes × (end ≡ start + length bytes) × (end ≤ 268435456)
+    (in_comment : Bool) × (bytes : List ℕ) × TookAll old new bytes × PixelsBegun count in_comment bytes × (end ≡ start + length bytes) × (end ≤ MAX_INPUT)
 PixelsFail old new start count (faults.Pixel at) =
     (bytes : List ℕ) × (byte : ℕ) × Took old new (bytes ++ byte ∷ []) × PixelsBegun count false bytes × (pixel_step false byte ≡ Wrong)
-    × (at ≡ start + length bytes) × (at < 268435456)
+    × (at ≡ start + length bytes) × (at < MAX_INPUT)
 PixelsFail old new start count faults.InputTooLong =
-    (in_comment : Bool) × (bytes : List ℕ) × (byte : ℕ) × Took old new (bytes ++ byte ∷ []) × PixelsBegun count in_comment bytes × (start + length bytes ≡ 268435456)
+    (in_comment : Bool) × (bytes : List ℕ) × (byte : ℕ) × Took old new (bytes ++ byte ∷ []) × PixelsBegun count in_comment bytes × (start + length bytes ≡ MAX_INPUT)
 PixelsFail old new start count faults.ReadFault =
-    (in_comment : Bool) × (bytes : List ℕ) × Took old new bytes × PixelsBegun count in_comment bytes × (start + length bytes ≤ 268435456)
+    (in_comment : Bool) × (bytes : List ℕ) × Took old new bytes × PixelsBegun count in_comment bytes × (start + length bytes ≤ MAX_INPUT)
 PixelsFail old new start count faults.Memory = ⊤
 PixelsFail old new start count fault = ⊥
 

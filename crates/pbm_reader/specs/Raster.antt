@@ -1,5 +1,6 @@
 -- Reading the rows of a page.
 use Rattle.std.specs.Prelude.{◌≡◌, ◌<◌, ◌≤◌, ℕ, ◌+◌, List, [], ◌∷◌, ◌++◌, length, Option, IfSome, ⊤, nat_lt, if◌then◌else◌}
+use Rattle.pbm_reader.specs.declared.limits.TheConstants.{MAX_INPUT}
 use Rattle.pbm_reader.specs.declared.fault.PageFault.{PageFault}
 use Rattle.pbm_reader.specs.declared.fault.PageFault.TheVariants as faults
 use Rattle.pbm_reader.specs.declared.form.Form.{Form}
@@ -42,19 +43,19 @@ pub record TookRaster {Sink : Type 0} (given : Sink → List ℕ → Sink → Ty
   pub rows : SpellsRows form page raster
   pub gives : AfterRows given page height before after
   pub end_is : end ≡ start + length raster
-  pub low : end ≤ 268435456
+  pub low : end ≤ MAX_INPUT
 
 -- why a raster was not read, from this offset on
 abbrev pub RasterFails : SourceView → SourceView → Form → ℕ → ℕ → ℕ → PageFault → Type 0
 RasterFails old new form width height start (faults.Truncated end) =
-    (part : List ℕ) × TookAll old new part × IsFrontOf (IsRaster form width height) part × (end ≡ start + length part) × (end ≤ 268435456)
+    (part : List ℕ) × TookAll old new part × IsFrontOf (IsRaster form width height) part × (end ≡ start + length part) × (end ≤ MAX_INPUT)
 RasterFails old new form width height start (faults.Pixel at) =
     (part : List ℕ) × (byte : ℕ) × Took old new (part ++ byte ∷ []) × (form ≡ Plain) × IsFrontOf (IsRaster form width height) part
-    × ((rest : List ℕ) → IsRaster form width height (part ++ byte ∷ rest) → ⊥) × (at ≡ start + length part) × (at < 268435456)
+    × ((rest : List ℕ) → IsRaster form width height (part ++ byte ∷ rest) → ⊥) × (at ≡ start + length part) × (at < MAX_INPUT)
 RasterFails old new form width height start faults.InputTooLong =
-    (part : List ℕ) × (byte : ℕ) × Took old new (part ++ byte ∷ []) × IsFrontOf (IsRaster form width height) part × (start + length part ≡ 268435456)
+    (part : List ℕ) × (byte : ℕ) × Took old new (part ++ byte ∷ []) × IsFrontOf (IsRaster form width height) part × (start + length part ≡ MAX_INPUT)
 RasterFails old new form width height start faults.ReadFault =
-    (part : List ℕ) × Took old new part × IsFrontOf (IsRaster form width height) part × (start + length part ≤ 268435456)
+    (part : List ℕ) × Took old new part × IsFrontOf (IsRaster form width height) part × (start + length part ≤ MAX_INPUT)
 RasterFails old new form width height start faults.Memory = ⊤
 RasterFails old new form width height start fault = ⊥
 

@@ -3,13 +3,11 @@ ghost use Rattle.std.specs.Prelude.{◌≡◌, ◌<◌, ◌≤◌, ◌-◌, ℕ,
 ghost use Rattle.layout_outside.specs.Taken.{HasEnded, HasSourceCause, Took, TookAll, TookPart};
 ghost use Rattle.pbm_reader.specs.Feed.{FeedView, with_unread};
 
+use crate::limits::MAX_PIECE;
 use layout_limits::OutOfMemory;
 use layout_outside::{Failed, Source};
 use std::alloc::Global;
 use std::marker::Model;
-
-/// How many bytes of the input are held at once, at most.
-pub const MAX_PIECE: usize = 32_768;
 
 /// The unread bytes of a piece of the input. It can outlive the call that read it.
 #[derive(Drop)]
@@ -106,7 +104,10 @@ impl<'s, S: Source> Model for Feed<'s, S> {
     ghost Value = { FeedView };
 
     ghost view = { λ f. record {
-        source = with_unread f.piece (S.view f.src.now); unread = f.piece; borrow = f.src.ghost_name } };
+      source = with_unread f.piece (S.view f.src.now);
+      unread = f.piece;
+      borrow = f.src.ghost_name;
+    } };
 }
 
 impl<'s, S: Source> Feed<'s, S> {

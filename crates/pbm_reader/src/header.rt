@@ -8,17 +8,10 @@ ghost use Rattle.pbm_reader.specs.Fault.{IsSizeFault};
 use crate::fault::{PageFault, Size};
 use crate::feed::Feed;
 use crate::form::Form;
+use crate::limits::MAX_HEADER;
 use crate::state::{HeaderState, next_state};
+use layout_limits::{MAX_PIXELS, MAX_SIDE};
 use layout_outside::Source;
-
-/// The greatest width, and the greatest height.
-const MAX_SIDE: u32 = 8192;
-
-/// The greatest number of pixels.
-const MAX_PIXELS: u32 = 33_554_432;
-
-/// How many bytes a header may have.
-const MAX_HEADER: u64 = 65_536;
 
 /// A header that a page can have, and how many bytes it takes.
 #[derive(Debug, Clone, Copy, PartialEq, Eq, Drop)]
@@ -97,7 +90,7 @@ fn page_size(width: u32, height: u32) -> Result<Size, PageFault>
     if width == 0 || height == 0 {
         return Err(PageFault::ZeroSize);
     }
-    if width > MAX_SIDE || height > MAX_SIDE || width * height > MAX_PIXELS {
+    if width > u32::from(MAX_SIDE) || height > u32::from(MAX_SIDE) || width * height > MAX_PIXELS {
         return Err(PageFault::TooLarge { width, height });
     }
     Ok(Size {

@@ -13,6 +13,7 @@ use crate::fault::{PageFault, Size};
 use crate::feed::{Feed, Piece};
 use crate::form::Form;
 use crate::header::{Header, read_header};
+use crate::limits::MAX_HEADER;
 use crate::plain::read_plain_raster;
 use crate::raster::read_raw_raster;
 use crate::row_sink::RowSink;
@@ -79,7 +80,7 @@ fn read_raster<S: Source, R: RowSink>(
     header: Header,
     rows: &mut R,
 ) -> Result<u64, PageFault>
-    requires short { header.len ≤ 65536 }
+    requires short { header.len ≤ MAX_HEADER }
     requires size { IsPageSize header.size.width header.size.height }
     requires width { R.width_of rows.old ≡ header.size.width }
     requires rows { R.rows_left rows.old ≡ header.size.height }

@@ -11,13 +11,11 @@ use crate::fault::PageFault;
 use crate::feed::Feed;
 use crate::form::{is_line_end, is_white};
 use crate::header::Header;
+use crate::limits::{MAX_HEADER, MAX_INPUT};
 use crate::raster::row_len;
 use crate::row_sink::RowSink;
 use layout_outside::Source;
 use std::alloc::Global;
-
-/// How many bytes an input may have.
-pub(crate) const MAX_INPUT: u64 = 268_435_456;
 
 /// A pixel, and the offset behind its character.
 #[derive(Debug, Clone, Copy, PartialEq, Eq, Drop)]
@@ -55,7 +53,7 @@ fn pixel_step(in_comment: bool, byte: u8) -> PixelStep
 
 /// Reads the next pixel, before which white bytes and comments may stand, from this offset on.
 fn next_pixel<S: Source>(feed: &mut Feed<'_, S>, start: u64) -> Result<Pixel, PageFault>
-    requires low { start ≤ 268435456 }
+    requires low { start ≤ MAX_INPUT }
     ensures pixel { IfOk result (λ pixel. TookPixels feed.old.source
         feed.new.source start pixel.end (bit_of pixel.is_black ∷ [])) }
     ensures fault { IfErr result (PixelsFail feed.old.source feed.new.source start 1) }
@@ -105,7 +103,7 @@ fn fill_pixels<S: Source>(
     width: u16,
     start: u64,
 ) -> Result<u64, PageFault>
-    requires low { start ≤ 268435456 }
+    requires low { start ≤ MAX_INPUT }
     requires len { length row.old ≡ row_len width }
     ensures ok { IfOk result (λ end. TookRow feed.old.source
         feed.new.source start end width row.new) }
@@ -135,7 +133,7 @@ fn read_pixels<S: Source, R: RowSink>(
     start: u64,
     rows: &mut R,
 ) -> Result<u64, PageFault>
-    requires low { start ≤ 268435456 }
+    requires low { start ≤ MAX_INPUT }
     requires len { length row.old ≡ row_len width }
     requires width { R.width_of rows.old ≡ width }
     requires more { 0 < R.rows_left rows.old }
@@ -163,7 +161,7 @@ pub(crate) fn read_plain_raster<S: Source, R: RowSink>(
     header: Header,
     rows: &mut R,
 ) -> Result<u64, PageFault>
-    requires short { header.len ≤ 65536 }
+    requires short { header.len ≤ MAX_HEADER }
     requires size { IsPageSize header.size.width header.size.height }
     requires width { R.width_of rows.old ≡ header.size.width }
     requires rows { R.rows_left rows.old ≡ header.size.height }

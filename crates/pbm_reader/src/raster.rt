@@ -10,6 +10,7 @@ ghost use Rattle.pbm_reader.specs.Raster.{IsCleared, BytesFail, GivenTopRows, Ra
 use crate::fault::PageFault;
 use crate::feed::Feed;
 use crate::header::Header;
+use crate::limits::MAX_HEADER;
 use crate::row_sink::RowSink;
 use layout_outside::Source;
 use std::alloc::Global;
@@ -96,7 +97,7 @@ pub(crate) fn read_raw_raster<S: Source, R: RowSink>(
     header: Header,
     rows: &mut R,
 ) -> Result<u64, PageFault>
-    requires short { header.len ≤ 65536 }
+    requires short { header.len ≤ MAX_HEADER }
     requires size { IsPageSize header.size.width header.size.height }
     requires width { R.width_of rows.old ≡ header.size.width }
     requires rows { R.rows_left rows.old ≡ header.size.height }

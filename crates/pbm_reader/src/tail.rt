@@ -7,12 +7,12 @@ ghost use Rattle.pbm_reader.specs.Tail.{RestFails, TailFails, TookRest, TookTail
 use crate::fault::PageFault;
 use crate::feed::Feed;
 use crate::form::{Form, is_white};
-use crate::plain::MAX_INPUT;
+use crate::limits::MAX_INPUT;
 use layout_outside::Source;
 
 /// Reads the rest of an input, from this offset on, to its end, and drops it.
 fn skip_rest<S: Source>(feed: &mut Feed<'_, S>, start: u64) -> Result<(), PageFault>
-    requires low { start ≤ 268435456 }
+    requires low { start ≤ MAX_INPUT }
     ensures ok { OnOk result (TookRest feed.old.source feed.new.source start) }
     ensures fault { IfErr result (RestFails feed.old.source feed.new.source start) }
     ensures drained { result ≡ Err PageFault.ReadFault → feed.new.unread ≡ [] }
@@ -48,7 +48,7 @@ pub(crate) fn read_tail<S: Source>(
     form: Form,
     start: u64,
 ) -> Result<(), PageFault>
-    requires low { start ≤ 268435456 }
+    requires low { start ≤ MAX_INPUT }
     ensures ok { OnOk result (TookTail feed.old.source feed.new.source form start) }
     ensures fault { IfErr result (TailFails feed.old.source feed.new.source form start) }
     ensures drained { result ≡ Err PageFault.ReadFault → feed.new.unread ≡ [] }
