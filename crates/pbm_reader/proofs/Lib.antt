@@ -2,7 +2,8 @@ pub mod Taken
 pub mod Copied
 pub mod Splits
 pub mod Machines
-pub mod Gaps
+pub mod Fed
+mod Gaps
 pub mod HeaderWalk
 pub mod RasterWalk
 pub mod Verdict

@@ -12,7 +12,8 @@ use Rattle.pbm_reader.specs.Page.{row_len, pixel, IsPageSize, IsPackedRow, IsRow
 use Rattle.pbm_reader.specs.Spelling.{raster_page}
 use Rattle.pbm_reader.specs.Given.{AfterRows, Stays}
 use Rattle.pbm_reader.specs.Raster.{IsCleared, BytesFail, RasterFails, TookRaster, GivenTopRows, TakesRow}
-use Rattle.pbm_reader.specs.Left.{Took}
+use Rattle.layout_outside.specs.Views.{SourceView}
+use Rattle.layout_outside.specs.Taken.{Took}
 use Rattle.pbm_reader.proofs.Taken.{took_more, took_all, prepend_nothing, all_left}
 use Rattle.pbm_reader.proofs.Judged.{raw_begins}
 
@@ -21,14 +22,14 @@ abbrev pub GivenRows : {Sink : Type 0} → (Sink → List ℕ → Sink → Type 
 GivenRows given width height raster y old new = (rest : List ℕ) → AfterRows given (raster_page width height (raster ++ rest)) y old new
 
 -- the first y rows were read and given
-pub record IsGiving {Sink : Type 0} (given : Sink → List ℕ → Sink → Type 0) (old now : Option (List ℕ)) (width height y : ℕ) (start sink : Sink) : Type 0 where
+pub record IsGiving {Sink : Type 0} (given : Sink → List ℕ → Sink → Type 0) (old now : SourceView) (width height y : ℕ) (start sink : Sink) : Type 0 where
   pub part : List ℕ
   pub took : Took old now part
   pub len : length part ≡ y * row_len width
   pub rows : GivenRows given width height part y start sink
 
-pub no_rows : {Sink : Type 0} (given : Sink → List ℕ → Sink → Type 0) (old : Option (List ℕ)) (width height : ℕ) (start : Sink) → IsGiving given old old width height 0 start start
-no_rows given old width height start = record { part = []; took = prepend_nothing old; len = omega arith; rows = λ rest. refl }
+pub no_rows : {Sink : Type 0} (given : Sink → List ℕ → Sink → Type 0) (old : SourceView) (width height : ℕ) (start : Sink) → IsGiving given old old width height 0 start start
+no_rows given old width height start = record { part = []; took = prepend_nothing old.left; len = omega arith; rows = λ rest. refl }
 
 -- the padding of a cleared row is clear
 pub cleared_packed : (width : ℕ) (bits cleared : List ℕ) → length bits ≡ row_len width → IsCleared width bits cleared → IsPackedRow width cleared
@@ -65,7 +66,7 @@ cleared_is_row width height y part bits rest cleared before len c = record {
       ];
 }
 
-pub one_more_row : {Sink : Type 0} (given : Sink → List ℕ → Sink → Type 0) (old middle new : Option (List ℕ)) (width height y : ℕ) (start sink next : Sink)
+pub one_more_row : {Sink : Type 0} (given : Sink → List ℕ → Sink → Type 0) (old middle new : SourceView) (width height y : ℕ) (start sink next : Sink)
     → IsGiving given old middle width height y start sink → TakesRow given width middle new sink next → IsGiving given old new width height (y + 1) start next
 one_more_row given old middle new width height y start sink next g row = record {
   part = g.part ++ row.bits;
@@ -92,7 +93,7 @@ raster_bound width height start s short =
     omega (arith, all, swap, open_up, area, high, short)
 
 -- why a row was not read is why the raster was not read
-pub row_fails : {Sink : Type 0} (given : Sink → List ℕ → Sink → Type 0) (old middle new : Option (List ℕ)) (width height y start : ℕ) (before sink : Sink) (fault : PageFault)
+pub row_fails : {Sink : Type 0} (given : Sink → List ℕ → Sink → Type 0) (old middle new : SourceView) (width height y start : ℕ) (before sink : Sink) (fault : PageFault)
     → IsGiving given old middle width height y before sink → y < height → IsPageSize width height → start ≤ 65536
     → BytesFail middle new (start + y * row_len width) (row_len width) fault → RasterFails old new Raw width height start fault
 row_fails given old middle new width height y start before sink (faults.Truncated end) g lt size short h =
@@ -125,7 +126,7 @@ row_fails given old middle new width height y start before sink (faults.Trailing
 row_fails given old middle new width height y start before sink faults.InputTooLong g lt size short h = absurd h
 
 -- all rows were given
-pub all_rows : {Sink : Type 0} (given : Sink → List ℕ → Sink → Type 0) (old now : Option (List ℕ)) (width height y start end : ℕ) (before sink : Sink)
+pub all_rows : {Sink : Type 0} (given : Sink → List ℕ → Sink → Type 0) (old now : SourceView) (width height y start end : ℕ) (before sink : Sink)
     → IsGiving given old now width height y before sink → y ≡ height → IsPageSize width height → start ≤ 65536 → end ≡ start + y * row_len width
     → TookRaster given old now Raw width height start end before sink
 all_rows given old now width height y start end before sink g e size short is =
@@ -145,7 +146,7 @@ all_rows given old now width height y start end before sink g e size short is =
     }
 
 -- the rows given before one was refused are top rows
-pub rows_stop : {Sink : Type 0} (given : Sink → List ℕ → Sink → Type 0) (unchanged : Sink → Sink → Type 0) (old now : Option (List ℕ)) (width height y : ℕ) (start sink last : Sink)
+pub rows_stop : {Sink : Type 0} (given : Sink → List ℕ → Sink → Type 0) (unchanged : Sink → Sink → Type 0) (old now : SourceView) (width height y : ℕ) (start sink last : Sink)
     → IsGiving given old now width height y start sink → Stays unchanged sink last → GivenTopRows given unchanged Raw width height old start last
 rows_stop given unchanged old now width height y start sink last g stays =
     let a = all_left old now g.part g.took in

@@ -3,7 +3,7 @@ pub mod Page
 pub mod Spelling
 pub mod Fault
 pub mod Given
-pub mod Left
+pub mod Feed
 pub mod Reading
 pub mod Header
 pub mod Raster
