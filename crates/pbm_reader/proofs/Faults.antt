@@ -8,7 +8,7 @@ use Rattle.pbm_reader.specs.declared.form.Form.{Form}
 use Rattle.pbm_reader.specs.declared.form.Form.TheVariants.{Plain, Raw}
 use Rattle.pbm_reader.specs.declared.state.HeaderState.{HeaderState}
 use Rattle.pbm_reader.specs.declared.state.HeaderState.TheVariants.{Magic, Kind, Named, WidthGap, WidthComment, Width, HeightGap, HeightComment, Height, Whole}
-use Rattle.pbm_reader.specs.Page.{IsPageSize}
+use Rattle.packed_rows.specs.Page.{IsPageSize}
 use Rattle.pbm_reader.specs.Spelling.{magic, is_white, is_line_end, IsHeader, IsSomeHeader, IsRaster}
 use Rattle.pbm_reader.specs.Header.{with_digit, in_gap, in_comment, next_state, wrong_byte, missing_byte}
 use Rattle.pbm_reader.specs.Fault.{Begins, HasMagic, IsFrontOf, IsMagicFault, IsHeaderFault, IsHeaderTooLong, HasPageHeader, IsSizeFault, IsTruncated, HasFaultWithin}

@@ -9,7 +9,7 @@ use Rattle.pbm_reader.specs.declared.fault.PageFault.{PageFault}
 use Rattle.pbm_reader.specs.declared.fault.PageFault.TheVariants as faults
 use Rattle.pbm_reader.specs.declared.state.HeaderState.{HeaderState}
 use Rattle.pbm_reader.specs.declared.state.HeaderState.TheVariants.{Magic, Kind, Named, WidthGap, WidthComment, Width, HeightGap, HeightComment, Height, Whole}
-use Rattle.pbm_reader.specs.Page.{IsPageSize}
+use Rattle.packed_rows.specs.Page.{IsPageSize}
 use Rattle.pbm_reader.specs.Spelling.{IsHeader}
 use Rattle.pbm_reader.specs.Header.{next_state, wrong_byte, missing_byte}
 use Rattle.pbm_reader.specs.Fault.{HasFault, HasFaultWithin, IsSizeFault, DecidesNothing, IsTruncated, IsHeaderTooLong}

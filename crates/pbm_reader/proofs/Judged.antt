@@ -8,7 +8,7 @@ use Rattle.pbm_reader.specs.declared.form.Form.{Form}
 use Rattle.pbm_reader.specs.declared.form.Form.TheVariants.{Plain, Raw}
 use Rattle.pbm_reader.specs.declared.state.HeaderState.{HeaderState}
 use Rattle.pbm_reader.specs.declared.state.HeaderState.TheVariants.{Magic, Whole}
-use Rattle.pbm_reader.specs.Page.{Page, IsPageSize, row_len}
+use Rattle.packed_rows.specs.Page.{Page, IsPageSize, row_len}
 use Rattle.pbm_reader.specs.Spelling.{is_white, IsHeader, HasHeader, IsRaster, MayFollow, SpellsRows, SpellsPixels, pixels_page, raster_page, Spells, IsPage}
 use Rattle.pbm_reader.specs.Header.{next_state, wrong_byte, missing_byte}
 use Rattle.pbm_reader.specs.Fault.{Begins, HasMagic, IsFrontOf, StopsAt, HasPageHeader, IsTruncated, IsInputTooLong, HasFaultWithin, HasFault, DecidesNothing}

@@ -9,7 +9,7 @@ pub mod Verdict
 pub mod Faults
 pub mod Judged
 pub mod HeaderLoop
-pub mod Pixels
+pub mod Pictures
 pub mod RowLoop
 pub mod PixelLoop
 pub mod PlainRows

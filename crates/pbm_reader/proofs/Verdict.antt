@@ -9,7 +9,7 @@ use Rattle.pbm_reader.specs.declared.form.Form.{Form}
 use Rattle.pbm_reader.specs.declared.form.Form.TheVariants.{Plain, Raw}
 use Rattle.pbm_reader.specs.declared.state.HeaderState.{HeaderState}
 use Rattle.pbm_reader.specs.declared.state.HeaderState.TheVariants.{Magic, Kind, Named, WidthGap, WidthComment, Width, HeightGap, HeightComment, Height, Whole}
-use Rattle.pbm_reader.specs.Page.{Page, row_len}
+use Rattle.packed_rows.specs.Page.{Page, row_len}
 use Rattle.pbm_reader.specs.Spelling.{is_white, magic, IsSomeHeader, HasHeader, IsRaster, MayFollow, SpellsRows, Spells}
 use Rattle.pbm_reader.specs.Header.{next_state}
 use Rattle.pbm_reader.specs.Fault.{HasMagic, IsFrontOf, IsMagicFault, IsHeaderFault, IsHeaderTooLong, HasPageHeader, EndsInHeader, EndsInRaster, IsZeroSize, IsTooLarge, IsPixelFault, IsTrailing, HasFaultWithin}

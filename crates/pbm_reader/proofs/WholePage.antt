@@ -9,7 +9,7 @@ use Rattle.pbm_reader.specs.declared.fault.PageFault.{PageFault}
 use Rattle.pbm_reader.specs.declared.fault.PageFault.TheVariants as faults
 use Rattle.pbm_reader.specs.declared.form.Form.{Form}
 use Rattle.pbm_reader.specs.declared.form.Form.TheVariants.{Plain, Raw}
-use Rattle.pbm_reader.specs.Page.{Page, IsPageSize, row_len}
+use Rattle.packed_rows.specs.Page.{Page, IsPageSize, row_len}
 use Rattle.pbm_reader.specs.Spelling.{IsHeader, IsRaster, MayFollow, SpellsRows, IsPage, pixels_page, raster_page, Spells}
 use Rattle.pbm_reader.specs.Fault.{IsFrontOf, HasPageHeader, HasFault, IsTruncated, IsPixelFault, IsTrailing, IsInputTooLong}
 use Rattle.pbm_reader.specs.Given.{AfterRows, AfterFault, HasTopRows}

@@ -2,7 +2,7 @@
 use Rattle.std.specs.Prelude.{◌≡◌, ◌≤◌, ◌⊎◌, ℕ, ◌*◌, zero, suc, List, ◌++◌, length, Option, IfSome}
 use Rattle.pbm_reader.specs.declared.form.Form.{Form}
 use Rattle.pbm_reader.specs.declared.form.Form.TheVariants.{Plain, Raw}
-use Rattle.pbm_reader.specs.Page.{Page, IsRowOf, row_len}
+use Rattle.packed_rows.specs.Page.{Page, IsRowOf, row_len}
 use Rattle.pbm_reader.specs.Spelling.{IsHeader, SpellsPixels, pixels_page, raster_page}
 
 -- the sink that these first rows of the page make of a sink, one row after the other

@@ -4,7 +4,7 @@ use Rattle.pbm_reader.specs.declared.fault.PageFault.{PageFault}
 use Rattle.pbm_reader.specs.declared.fault.PageFault.TheVariants as faults
 use Rattle.pbm_reader.specs.declared.plain.PixelStep.{PixelStep}
 use Rattle.pbm_reader.specs.declared.plain.PixelStep.TheVariants.{Blank, Found, Wrong}
-use Rattle.pbm_reader.specs.Page.{pixel, row_len}
+use Rattle.packed_rows.specs.Page.{pixel, row_len}
 use Rattle.pbm_reader.specs.Spelling.{is_white, is_line_end, AreInLine, IsBlank, SpellsPixels}
 use Rattle.pbm_reader.specs.Left.{Took, TookAll}
 

@@ -1,19 +1,14 @@
 -- Reading the rows of a page.
-use Rattle.std.specs.Prelude.{◌≡◌, ◌<◌, ◌≤◌, ℕ, ◌+◌, List, [], ◌∷◌, ◌++◌, length, Option, IfSome, ⊤, nat_lt, if◌then◌else◌}
+use Rattle.std.specs.Prelude.{◌≡◌, ◌<◌, ◌≤◌, ℕ, ◌+◌, List, [], ◌∷◌, ◌++◌, length, Option, IfSome, ⊤}
 use Rattle.pbm_reader.specs.declared.fault.PageFault.{PageFault}
 use Rattle.pbm_reader.specs.declared.fault.PageFault.TheVariants as faults
 use Rattle.pbm_reader.specs.declared.form.Form.{Form}
 use Rattle.pbm_reader.specs.declared.form.Form.TheVariants.{Plain}
-use Rattle.pbm_reader.specs.Page.{Page, pixel, row_len}
+use Rattle.packed_rows.specs.Page.{Page, row_len, IsCleared}
 use Rattle.pbm_reader.specs.Spelling.{IsRaster, SpellsRows}
 use Rattle.pbm_reader.specs.Fault.{IsFrontOf}
 use Rattle.pbm_reader.specs.Given.{AfterRows, HasTopRows, Stays}
 use Rattle.pbm_reader.specs.Left.{Took, TookAll}
-
--- a row whose padding bits are cleared
-pub record IsCleared (width : ℕ) (old new : List ℕ) : Type 0 where
-  pub len : length new ≡ length old
-  pub pixels : (x : ℕ) → pixel new x ≡ (if nat_lt x width then pixel old x else 0)
 
 -- a row was taken from the input, and the sink was given it with its padding bits cleared
 pub record TakesRow {Sink : Type 0} (given : Sink → List ℕ → Sink → Type 0) (width : ℕ) (old new : Option (List ℕ)) (before after : Sink) : Type 0 where

@@ -16,6 +16,6 @@ mod tail;
 mod tests;
 
 pub use fault::{PageFault, Size};
-pub use law::each_input_is_judged;
+pub use law::{each_input_is_judged, equal_pictures_are_one_page};
 pub use page::read_page;
-pub use row_sink::{OutOfMemory, RowSink};
+pub use row_sink::RowSink;

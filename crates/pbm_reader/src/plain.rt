@@ -12,9 +12,9 @@ use crate::fault::PageFault;
 use crate::feed::{Feed, next_byte};
 use crate::form::{is_line_end, is_white};
 use crate::header::Header;
-use crate::raster::row_len;
 use crate::row_sink::RowSink;
 use layout_outside::Source;
+use packed_rows::{row_len, set_pixel, whiten};
 use std::alloc::Global;
 
 /// How many bytes an input may have.
@@ -93,7 +93,7 @@ fn put_pixel(row: &mut [u8], x: u16, is_black: bool)
     ensures pixels { (k : ℕ) → pixel row.new k ≡ (if k == x then bit_of is_black else pixel row.old k) }
 {
     if is_black {
-        row[usize::from(x / 8)] |= 1 << (7 - x % 8);
+        set_pixel(row, x);
     }
 }
 
@@ -116,7 +116,7 @@ fn fill_pixels<S: Source>(
     ensures drained { result ≡ Err PageFault.ReadFault → feed.new ≡ [] }
     ensures cause { HasReadCause (S.view src.old).faults (S.view src.new).faults result }
 {
-    row.fill(0);
+    whiten(row);
     let mut at = start;
     for x in 0..width {
         let pixel = next_pixel(src, feed, at)?;

@@ -53,7 +53,7 @@ loop-y-preserved g c =
     let took = c.in_ok-at.ensures.ok in
     record {
       giving = one_more_row g.R.RowSink.given old middle new c.args.header.len c.loop-y.at c.in_ok-at.at size.width size.height c.loop-y._y c.args.rows.now c.loop-y.rows c.read_pixels.new.rows
-          c.loop-y.invariant.giving took;
+          c.loop-y.invariant.giving (omega arith) took;
       buffer = c.loop-y.invariant.buffer;
       low = took.row.took.low;
       width = c.in_ok-at.ensures.width;

@@ -42,7 +42,8 @@ loop-y-preserved g c =
     let middle = left_of (g.S.Source.view c.loop-y.src).left c.loop-y.feed in
     let new = left_of (g.S.Source.view c.read_row.new.src).left c.read_row.new.feed in
     record {
-      giving = one_more_row g.R.RowSink.given old middle new size.width size.height c.loop-y._y c.args.rows.now c.loop-y.rows c.read_row.new.rows c.loop-y.invariant.giving c.in_ok-read_row.ensures.ok;
+      giving = one_more_row g.R.RowSink.given old middle new size.width size.height c.loop-y._y c.args.rows.now c.loop-y.rows c.read_row.new.rows c.loop-y.invariant.giving
+          (omega arith) c.in_ok-read_row.ensures.ok;
       buffer = c.loop-y.invariant.buffer;
       offset = omega (arith, c.loop-y.invariant.offset, c.row_len-len.ensures);
       width = c.in_ok-read_row.ensures.width;
