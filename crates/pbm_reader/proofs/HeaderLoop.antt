@@ -19,7 +19,7 @@ use Rattle.pbm_reader.proofs.Taken.{took_more, took_all, prepend_nothing, of_all
 use Rattle.pbm_reader.proofs.Machines.{run, run_append, IsOpen}
 use Rattle.pbm_reader.proofs.HeaderWalk.{is_whole, header_machine, read_header}
 use Rattle.pbm_reader.proofs.Faults.{IsNamed, read_so_far, header_cut, wrong_fault, missing_fault, too_long, size_fault, told_size}
-use Rattle.pbm_reader.proofs.Judged.{has_fault, nothing_undecided, letter_undecided, cut_undecided}
+use Rattle.pbm_reader.proofs.OneFault.{has_fault, nothing_undecided, letter_undecided, cut_undecided}
 
 -- these bytes of a header were taken, and lead to this state
 pub record IsReading (old now : Option (List ℕ)) (at : ℕ) (state : HeaderState) : Type 0 where

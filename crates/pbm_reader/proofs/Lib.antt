@@ -6,8 +6,13 @@ pub mod Gaps
 pub mod HeaderWalk
 pub mod RasterWalk
 pub mod Verdict
+pub mod FaultVerdicts
 pub mod Faults
+pub mod Settled
+pub mod OneFault
+pub mod RasterJudged
 pub mod Judged
+pub mod OnePage
 pub mod HeaderLoop
 pub mod Pictures
 pub mod RowLoop

@@ -17,7 +17,7 @@ use Rattle.pbm_reader.specs.Raster.{RasterFails, TookRaster, GivenTopRows}
 use Rattle.pbm_reader.proofs.Machines.{run, run_append, IsRead}
 use Rattle.pbm_reader.proofs.RasterWalk.{RasterState, raster_step, wanted, raster_machine, begun_open, wrong_stops, part_state, raster_is_read}
 use Rattle.pbm_reader.proofs.Gaps.{none_some}
-use Rattle.pbm_reader.proofs.Judged.{plain_begins}
+use Rattle.pbm_reader.proofs.RasterJudged.{plain_begins}
 use Rattle.pbm_reader.proofs.PixelLoop.{are_packed, took_pixels, pixels_fail}
 use Rattle.pbm_reader.proofs.Taken.{prepend_nothing, all_left}
 

@@ -15,7 +15,7 @@ use Rattle.pbm_reader.specs.Given.{AfterRows, Stays}
 use Rattle.pbm_reader.specs.Raster.{BytesFail, RasterFails, TookRaster, GivenTopRows, TakesRow}
 use Rattle.pbm_reader.specs.Left.{Took}
 use Rattle.pbm_reader.proofs.Taken.{took_more, took_all, prepend_nothing, all_left}
-use Rattle.pbm_reader.proofs.Judged.{raw_begins}
+use Rattle.pbm_reader.proofs.RasterJudged.{raw_begins}
 
 -- the first rows of the page that these bytes begin were given, whatever follows them
 abbrev pub GivenRows : {Sink : Type 0} → (Sink → List ℕ → Sink → Type 0) → ℕ → ℕ → List ℕ → ℕ → Sink → Sink → Type 0

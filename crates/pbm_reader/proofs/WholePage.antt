@@ -19,7 +19,7 @@ use Rattle.pbm_reader.specs.Left.{left_of, Took, TookAll, TookHeader}
 use Rattle.pbm_reader.specs.Reading.{HasReadCause, ReadsPage, Refuses}
 use Rattle.pbm_reader.proofs.Taken.{took_more, took_all, prepend_nothing, of_all, of_end, all_left}
 use Rattle.pbm_reader.proofs.Faults.{raster_ends}
-use Rattle.pbm_reader.proofs.Judged.{one_fault, page_has_no_fault, page_undecided, cut_undecided, long_fault}
+use Rattle.pbm_reader.proofs.OneFault.{one_fault, page_has_no_fault, page_undecided, cut_undecided, long_fault}
 
 -- ---- refusals in the raster
 
