@@ -15,6 +15,7 @@ pub mod Judged
 pub mod OnePage
 pub mod HeaderLoop
 pub mod Pictures
+pub mod TopRows
 pub mod RowLoop
 pub mod PixelLoop
 pub mod PlainRows

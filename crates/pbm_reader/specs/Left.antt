@@ -1,32 +1,24 @@
--- What is left of the input, and what was taken of it.
-use Rattle.std.specs.Prelude.{◌≡◌, ◌<◌, ◌≤◌, ℕ, min, List, length, Option}
-use Rattle.std.specs.Io.KnownBytes.{prepend_known, IsAtEnd}
+-- A source behind a feed, and the headers that are taken from it.
+use Rattle.std.specs.Prelude.{◌≡◌, ◌≤◌, ℕ, min, Bool, false, List, [], ◌∷◌, length}
+use Rattle.std.specs.Io.KnownBytes.{prepend_known}
+use Rattle.layout_outside.specs.Views.{SourceView}
+use Rattle.layout_outside.specs.Taken.{Took}
 use Rattle.pbm_reader.specs.declared.header.Header.{Header}
 use Rattle.pbm_reader.specs.declared.header.Told.{Told}
 use Rattle.pbm_reader.specs.Page.{IsPageSize}
 use Rattle.pbm_reader.specs.Spelling.{IsHeader}
 
--- the unread bytes of a piece, and then what the source has left
-abbrev pub left_of : Option (List ℕ) → List ℕ → Option (List ℕ)
-left_of source unread = prepend_known unread source
+-- a source has not ended while bytes are unread
+abbrev pub ended_behind : List ℕ → Bool → Bool
+ended_behind [] ended = ended
+ended_behind (byte ∷ unread) ended = false
 
--- these bytes were taken from what was left
-abbrev pub Took : Option (List ℕ) → Option (List ℕ) → List ℕ → Type 0
-Took old new bytes = old ≡ prepend_known bytes new
-
--- these bytes were all that was left, and the end was met
-pub record TookAll (old new : Option (List ℕ)) (bytes : List ℕ) : Type 0 where
-  pub took : Took old new bytes
-  pub end : IsAtEnd new
-
--- fewer bytes than this were taken
-pub record TookPart (old new : Option (List ℕ)) (len : ℕ) : Type 0 where
-  pub bytes : List ℕ
-  pub took : Took old new bytes
-  pub fewer : length bytes < len
+-- a source behind a feed: the unread bytes of a piece stand before what the source has left
+abbrev pub feed_view : SourceView → List ℕ → SourceView
+feed_view source unread = record { left = prepend_known unread source.left; faults = source.faults; ended = ended_behind unread source.ended }
 
 -- a header was taken, of at most 65,536 bytes; a size above 999,999,999 is told as 999,999,999
-pub record TookSizes (old new : Option (List ℕ)) (told : Told) : Type 0 where
+pub record TookSizes (old new : SourceView) (told : Told) : Type 0 where
   pub bytes : List ℕ
   pub took : Took old new bytes
   pub width : ℕ
@@ -38,7 +30,7 @@ pub record TookSizes (old new : Option (List ℕ)) (told : Told) : Type 0 where
   pub short : length bytes ≤ 65536
 
 -- a header that a page can have was taken, of at most 65,536 bytes
-pub record TookHeader (old new : Option (List ℕ)) (header : Header) : Type 0 where
+pub record TookHeader (old new : SourceView) (header : Header) : Type 0 where
   pub bytes : List ℕ
   pub took : Took old new bytes
   pub is_header : IsHeader bytes header.form header.size.width header.size.height

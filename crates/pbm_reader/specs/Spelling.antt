@@ -118,11 +118,15 @@ MayFollow form [] = Unit {0}
 MayFollow Plain (byte ∷ bytes) = IsTrue (is_white byte)
 MayFollow Raw (byte ∷ bytes) = ⊥
 
+-- the bytes are so many rows of the page from its top; the rows under them are white
+abbrev pub SpellsTop : Form → ℕ → Page → List ℕ → Type 0
+SpellsTop Plain count page bytes =
+    (pixels : List ℕ) × (length pixels ≡ count * page.width) × SpellsPixels pixels bytes × (page ≡ pixels_page page.width page.height pixels)
+SpellsTop Raw count page bytes = (length bytes ≡ count * row_len page.width) × (page ≡ raster_page page.width page.height bytes)
+
 -- the raster's rows are those of the page
 abbrev pub SpellsRows : Form → Page → List ℕ → Type 0
-SpellsRows Plain page raster =
-    (pixels : List ℕ) × (length pixels ≡ page.height * page.width) × SpellsPixels pixels raster × (page ≡ pixels_page page.width page.height pixels)
-SpellsRows Raw page raster = (length raster ≡ page.height * row_len page.width) × (page ≡ raster_page page.width page.height raster)
+SpellsRows form page raster = SpellsTop form page.height page raster
 
 -- the bytes spell the page: a header with sizes that a page can have, a raster of its form and size, and what may follow it,
 -- 268,435,456 bytes at most, which a page in the raw form never has

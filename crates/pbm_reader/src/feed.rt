@@ -1,8 +1,8 @@
 //! The bytes of the input one after the other, in whatever pieces the source hands them out.
 ghost use Rattle.std.specs.Prelude.{◌≡◌, ◌<◌, ◌≤◌, ◌-◌, ℕ, List, [], ◌∷◌, ◌++◌, length, take, drop, min, IfSome, IfNone, IfOk, OnOk, OnErr, IsTrue, ◌↔◌, vec_len};
-ghost use Rattle.std.specs.Io.KnownBytes.{IsAtEnd, prepend_known};
-ghost use Rattle.layout_outside.specs.Causes.{HasCause};
-ghost use Rattle.pbm_reader.specs.Left.{left_of, Took, TookAll, TookPart};
+ghost use Rattle.std.specs.Io.KnownBytes.{prepend_known};
+ghost use Rattle.layout_outside.specs.Taken.{HasEnded, HasSourceCause, Took, TookAll, TookPart};
+ghost use Rattle.pbm_reader.specs.Left.{feed_view};
 
 use layout_outside::{Failed, Source};
 use std::alloc::{AllocError, Global};
@@ -83,9 +83,9 @@ impl Feed {
     /// Reads the next piece, in the place of the last.
     fn refill<S: Source>(&mut self, src: &mut S) -> Result<(), Failed>
         ensures bytes { OnOk result ((S.view src.old).left ≡ prepend_known self.new (S.view src.new).left) }
-        ensures end { OnOk result (self.new ≡ [] → IsAtEnd (S.view src.new).left) }
+        ensures end { OnOk result (self.new ≡ [] → HasEnded (S.view src.new)) }
         ensures err { OnErr result ((self.new ≡ []) × ((S.view src.new).left ≡ (S.view src.old).left)) }
-        ensures cause { HasCause (S.view src.old).faults (S.view src.new).faults result }
+        ensures cause { HasSourceCause (S.view src.old) (S.view src.new) result }
     {
         self.at = 0;
         self.end = 0;
@@ -97,12 +97,12 @@ impl Feed {
 /// The next byte, or none at the end of the input.
 pub(crate) fn next_byte<S: Source>(src: &mut S, feed: &mut Feed) -> Result<Option<u8>, Failed>
     ensures byte { IfOk result (λ next. IfSome next (λ byte.
-        Took (left_of (S.view src.old).left feed.old) (left_of (S.view src.new).left feed.new) (byte ∷ []))) }
+        Took (feed_view (S.view src.old) feed.old) (feed_view (S.view src.new) feed.new) (byte ∷ []))) }
     ensures end { IfOk result (λ next. IfNone next
-        (TookAll (left_of (S.view src.old).left feed.old) (left_of (S.view src.new).left feed.new) [])) }
-    ensures err { OnErr result (left_of (S.view src.new).left feed.new ≡ left_of (S.view src.old).left feed.old) }
+        (TookAll (feed_view (S.view src.old) feed.old) (feed_view (S.view src.new) feed.new) [])) }
+    ensures err { OnErr result (Took (feed_view (S.view src.old) feed.old) (feed_view (S.view src.new) feed.new) []) }
     ensures drained { OnErr result (feed.new ≡ []) }
-    ensures cause { HasCause (S.view src.old).faults (S.view src.new).faults result }
+    ensures cause { HasSourceCause (S.view src.old) (S.view src.new) result }
 {
     if let Some(byte) = feed.pop() {
         return Ok(Some(byte));
@@ -116,11 +116,11 @@ fn next_bytes<S: Source>(src: &mut S, feed: &mut Feed, buf: &mut [u8]) -> Result
     requires { 0 < length buf.old }
     ensures bound { IfOk result (λ count. count ≤ length buf.new) }
     ensures bytes { IfOk result (λ count.
-        Took (left_of (S.view src.old).left feed.old) (left_of (S.view src.new).left feed.new) (take count buf.new)) }
-    ensures end { IfOk result (λ count. count ≡ 0 → IsAtEnd (left_of (S.view src.new).left feed.new)) }
-    ensures err { OnErr result (left_of (S.view src.new).left feed.new ≡ left_of (S.view src.old).left feed.old) }
+        Took (feed_view (S.view src.old) feed.old) (feed_view (S.view src.new) feed.new) (take count buf.new)) }
+    ensures end { IfOk result (λ count. count ≡ 0 → HasEnded (feed_view (S.view src.new) feed.new)) }
+    ensures err { OnErr result (Took (feed_view (S.view src.old) feed.old) (feed_view (S.view src.new) feed.new) []) }
     ensures drained { OnErr result (feed.new ≡ []) }
-    ensures cause { HasCause (S.view src.old).faults (S.view src.new).faults result }
+    ensures cause { HasSourceCause (S.view src.old) (S.view src.new) result }
 {
     if feed.is_empty() {
         feed.refill(src)?;
@@ -131,11 +131,11 @@ fn next_bytes<S: Source>(src: &mut S, feed: &mut Feed, buf: &mut [u8]) -> Result
 /// Drops the next bytes, as many as are at hand, and says how many. None is the end of the input.
 pub(crate) fn drop_bytes<S: Source>(src: &mut S, feed: &mut Feed) -> Result<usize, Failed>
     ensures bytes { IfOk result (λ count. (bytes : List ℕ) × (count ≡ length bytes)
-        × Took (left_of (S.view src.old).left feed.old) (left_of (S.view src.new).left feed.new) bytes) }
-    ensures end { IfOk result (λ count. count ≡ 0 → IsAtEnd (left_of (S.view src.new).left feed.new)) }
-    ensures err { OnErr result (left_of (S.view src.new).left feed.new ≡ left_of (S.view src.old).left feed.old) }
+        × Took (feed_view (S.view src.old) feed.old) (feed_view (S.view src.new) feed.new) bytes) }
+    ensures end { IfOk result (λ count. count ≡ 0 → HasEnded (feed_view (S.view src.new) feed.new)) }
+    ensures err { OnErr result (Took (feed_view (S.view src.old) feed.old) (feed_view (S.view src.new) feed.new) []) }
     ensures drained { OnErr result (feed.new ≡ []) }
-    ensures cause { HasCause (S.view src.old).faults (S.view src.new).faults result }
+    ensures cause { HasSourceCause (S.view src.old) (S.view src.new) result }
 {
     if feed.is_empty() {
         feed.refill(src)?;
@@ -147,12 +147,12 @@ pub(crate) fn drop_bytes<S: Source>(src: &mut S, feed: &mut Feed) -> Result<usiz
 pub(crate) fn fill<S: Source>(src: &mut S, feed: &mut Feed, buf: &mut [u8]) -> Result<usize, Failed>
     ensures bound { IfOk result (λ count. count ≤ length buf.new) }
     ensures bytes { IfOk result (λ count.
-        Took (left_of (S.view src.old).left feed.old) (left_of (S.view src.new).left feed.new) (take count buf.new)) }
-    ensures end { IfOk result (λ count. count < length buf.new → IsAtEnd (left_of (S.view src.new).left feed.new)) }
+        Took (feed_view (S.view src.old) feed.old) (feed_view (S.view src.new) feed.new) (take count buf.new)) }
+    ensures end { IfOk result (λ count. count < length buf.new → HasEnded (feed_view (S.view src.new) feed.new)) }
     ensures err { OnErr result
-        (TookPart (left_of (S.view src.old).left feed.old) (left_of (S.view src.new).left feed.new) (length buf.old)) }
+        (TookPart (feed_view (S.view src.old) feed.old) (feed_view (S.view src.new) feed.new) (length buf.old)) }
     ensures drained { OnErr result (feed.new ≡ []) }
-    ensures cause { HasCause (S.view src.old).faults (S.view src.new).faults result }
+    ensures cause { HasSourceCause (S.view src.old) (S.view src.new) result }
 {
     let mut at = 0;
     while at < buf.len() {

@@ -2,7 +2,7 @@
 ghost use Rattle.std.specs.Prelude.{◌≡◌, ◌≤◌, ◌<◌, ◌^◌, List, [], ℕ, IfOk, IfErr};
 ghost use Rattle.pbm_reader.specs.Page.{IsPageSize};
 ghost use Rattle.pbm_reader.specs.Reading.{HasReadCause, Refuses};
-ghost use Rattle.pbm_reader.specs.Left.{left_of, Took, TookHeader, TookSizes};
+ghost use Rattle.pbm_reader.specs.Left.{feed_view, TookHeader, TookSizes};
 ghost use Rattle.pbm_reader.specs.Fault.{IsSizeFault};
 ghost use Rattle.pbm_reader.specs.Header.{wrong_byte, missing_byte};
 
@@ -60,10 +60,10 @@ fn missing_byte(state: HeaderState, at: u64) -> PageFault
 
 /// Reads a header to its last byte, whatever sizes it says.
 fn read_told<S: Source>(src: &mut S, feed: &mut Feed) -> Result<Told, PageFault>
-    ensures told { IfOk result (TookSizes (left_of (S.view src.old).left feed.old) (left_of (S.view src.new).left feed.new)) }
-    ensures fault { IfErr result (Refuses (left_of (S.view src.old).left feed.old) (left_of (S.view src.new).left feed.new)) }
+    ensures told { IfOk result (TookSizes (feed_view (S.view src.old) feed.old) (feed_view (S.view src.new) feed.new)) }
+    ensures fault { IfErr result (Refuses (feed_view (S.view src.old) feed.old) (feed_view (S.view src.new) feed.new)) }
     ensures drained { result ≡ Err PageFault.ReadFault → feed.new ≡ [] }
-    ensures cause { HasReadCause (S.view src.old).faults (S.view src.new).faults result }
+    ensures cause { HasReadCause (S.view src.old) (S.view src.new) result }
 {
     let mut state = HeaderState::Magic;
     for at in 0..MAX_HEADER {
@@ -108,10 +108,10 @@ fn page_size(width: u32, height: u32) -> Result<Size, PageFault>
 
 /// Reads a header, with sizes that a page can have.
 pub(crate) fn read_header<S: Source>(src: &mut S, feed: &mut Feed) -> Result<Header, PageFault>
-    ensures header { IfOk result (TookHeader (left_of (S.view src.old).left feed.old) (left_of (S.view src.new).left feed.new)) }
-    ensures fault { IfErr result (Refuses (left_of (S.view src.old).left feed.old) (left_of (S.view src.new).left feed.new)) }
+    ensures header { IfOk result (TookHeader (feed_view (S.view src.old) feed.old) (feed_view (S.view src.new) feed.new)) }
+    ensures fault { IfErr result (Refuses (feed_view (S.view src.old) feed.old) (feed_view (S.view src.new) feed.new)) }
     ensures drained { result ≡ Err PageFault.ReadFault → feed.new ≡ [] }
-    ensures cause { HasReadCause (S.view src.old).faults (S.view src.new).faults result }
+    ensures cause { HasReadCause (S.view src.old) (S.view src.new) result }
 {
     let told = read_told(src, feed)?;
     let size = page_size(told.width, told.height)?;

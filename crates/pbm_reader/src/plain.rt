@@ -3,7 +3,7 @@ ghost use Rattle.std.specs.Prelude.{◌≡◌, ◌≤◌, ◌<◌, ◌+◌, ◌/
 ghost use Rattle.pbm_reader.specs.Page.{IsPageSize, pixel, row_len};
 ghost use Rattle.pbm_reader.specs.declared.form.Form.TheVariants.{Plain};
 ghost use Rattle.pbm_reader.specs.Reading.{HasReadCause};
-ghost use Rattle.pbm_reader.specs.Left.{left_of};
+ghost use Rattle.pbm_reader.specs.Left.{feed_view};
 ghost use Rattle.pbm_reader.specs.Given.{Stays};
 ghost use Rattle.pbm_reader.specs.Plain.{pixel_step, bit_of, PixelsFail, TakesPixels, TookPixels, TookRow};
 ghost use Rattle.pbm_reader.specs.Raster.{GivenTopRows, RasterFails, TookRaster};
@@ -57,11 +57,11 @@ fn pixel_step(in_comment: bool, byte: u8) -> PixelStep
 /// Reads the next pixel, before which white bytes and comments may stand, from this offset on.
 fn next_pixel<S: Source>(src: &mut S, feed: &mut Feed, start: u64) -> Result<Pixel, PageFault>
     requires low { start ≤ 268435456 }
-    ensures pixel { IfOk result (λ pixel. TookPixels (left_of (S.view src.old).left feed.old)
-        (left_of (S.view src.new).left feed.new) start pixel.end (bit_of pixel.is_black ∷ [])) }
-    ensures fault { IfErr result (PixelsFail (left_of (S.view src.old).left feed.old) (left_of (S.view src.new).left feed.new) start 1) }
+    ensures pixel { IfOk result (λ pixel. TookPixels (feed_view (S.view src.old) feed.old)
+        (feed_view (S.view src.new) feed.new) start pixel.end (bit_of pixel.is_black ∷ [])) }
+    ensures fault { IfErr result (PixelsFail (feed_view (S.view src.old) feed.old) (feed_view (S.view src.new) feed.new) start 1) }
     ensures drained { result ≡ Err PageFault.ReadFault → feed.new ≡ [] }
-    ensures cause { HasReadCause (S.view src.old).faults (S.view src.new).faults result }
+    ensures cause { HasReadCause (S.view src.old) (S.view src.new) result }
 {
     let mut in_comment = false;
     for at in start..MAX_INPUT {
@@ -108,13 +108,13 @@ fn fill_pixels<S: Source>(
 ) -> Result<u64, PageFault>
     requires low { start ≤ 268435456 }
     requires len { length row.old ≡ row_len width }
-    ensures ok { IfOk result (λ end. TookRow (left_of (S.view src.old).left feed.old)
-        (left_of (S.view src.new).left feed.new) start end width row.new) }
-    ensures fault { IfErr result (PixelsFail (left_of (S.view src.old).left feed.old)
-        (left_of (S.view src.new).left feed.new) start width) }
+    ensures ok { IfOk result (λ end. TookRow (feed_view (S.view src.old) feed.old)
+        (feed_view (S.view src.new) feed.new) start end width row.new) }
+    ensures fault { IfErr result (PixelsFail (feed_view (S.view src.old) feed.old)
+        (feed_view (S.view src.new) feed.new) start width) }
     ensures len { length row.new ≡ length row.old }
     ensures drained { result ≡ Err PageFault.ReadFault → feed.new ≡ [] }
-    ensures cause { HasReadCause (S.view src.old).faults (S.view src.new).faults result }
+    ensures cause { HasReadCause (S.view src.old) (S.view src.new) result }
 {
     whiten(row);
     let mut at = start;
@@ -140,16 +140,16 @@ fn read_pixels<S: Source, R: RowSink>(
     requires len { length row.old ≡ row_len width }
     requires width { R.width_of rows.old ≡ width }
     requires more { 0 < R.rows_left rows.old }
-    ensures ok { IfOk result (λ end. TakesPixels R.given (left_of (S.view src.old).left feed.old)
-        (left_of (S.view src.new).left feed.new) start end width rows.old rows.new) }
+    ensures ok { IfOk result (λ end. TakesPixels R.given (feed_view (S.view src.old) feed.old)
+        (feed_view (S.view src.new) feed.new) start end width rows.old rows.new) }
     ensures len { length row.new ≡ length row.old }
     ensures width { OnOk result (R.width_of rows.new ≡ width) }
     ensures rows { OnOk result (R.rows_left rows.new + 1 ≡ R.rows_left rows.old) }
-    ensures fault { IfErr result (PixelsFail (left_of (S.view src.old).left feed.old)
-        (left_of (S.view src.new).left feed.new) start width) }
+    ensures fault { IfErr result (PixelsFail (feed_view (S.view src.old) feed.old)
+        (feed_view (S.view src.new) feed.new) start width) }
     ensures stays { OnErr result (Stays R.unchanged rows.old rows.new) }
     ensures drained { result ≡ Err PageFault.ReadFault → feed.new ≡ [] }
-    ensures cause { HasReadCause (S.view src.old).faults (S.view src.new).faults result }
+    ensures cause { HasReadCause (S.view src.old) (S.view src.new) result }
 {
     let end = fill_pixels(src, feed, row, width, start)?;
     rows.row(row)?;
@@ -168,14 +168,14 @@ pub(crate) fn read_plain_raster<S: Source, R: RowSink>(
     requires size { IsPageSize header.size.width header.size.height }
     requires width { R.width_of rows.old ≡ header.size.width }
     requires rows { R.rows_left rows.old ≡ header.size.height }
-    ensures ok { IfOk result (λ end. TookRaster R.given (left_of (S.view src.old).left feed.old)
-        (left_of (S.view src.new).left feed.new) Plain header.size.width header.size.height header.len end rows.old rows.new) }
-    ensures fault { IfErr result (RasterFails (left_of (S.view src.old).left feed.old)
-        (left_of (S.view src.new).left feed.new) Plain header.size.width header.size.height header.len) }
-    ensures top { OnErr result (GivenTopRows R.given R.unchanged Plain header.size.width header.size.height
-        (left_of (S.view src.old).left feed.old) rows.old rows.new) }
+    ensures ok { IfOk result (λ end. TookRaster R.given (feed_view (S.view src.old) feed.old)
+        (feed_view (S.view src.new) feed.new) Plain header.size.width header.size.height header.len end rows.old rows.new) }
+    ensures fault { IfErr result (RasterFails (feed_view (S.view src.old) feed.old)
+        (feed_view (S.view src.new) feed.new) Plain header.size.width header.size.height header.len) }
+    ensures top { IfErr result (GivenTopRows R.given R.unchanged Plain header.size.width header.size.height header.len
+        (feed_view (S.view src.old) feed.old) (feed_view (S.view src.new) feed.new) rows.old rows.new) }
     ensures drained { result ≡ Err PageFault.ReadFault → feed.new ≡ [] }
-    ensures cause { HasReadCause (S.view src.old).faults (S.view src.new).faults result }
+    ensures cause { HasReadCause (S.view src.old) (S.view src.new) result }
 {
     let len = row_len(header.size.width);
     let mut row = vec![in alloc; 0; len]?;

@@ -1,7 +1,8 @@
 //! The rows of a raw raster, eight pixels a byte.
 ghost use Rattle.std.specs.Prelude.{◌≡◌, ◌<◌, ◌≤◌, ◌+◌, ◌*◌, ◌^◌, ℕ, List, [], length, IfOk, IfErr, OnOk, OnErr};
 ghost use Rattle.pbm_reader.specs.Reading.{HasReadCause};
-ghost use Rattle.pbm_reader.specs.Left.{left_of, Took};
+ghost use Rattle.layout_outside.specs.Taken.{Took};
+ghost use Rattle.pbm_reader.specs.Left.{feed_view};
 ghost use Rattle.pbm_reader.specs.Given.{Stays};
 ghost use Rattle.packed_rows.specs.Page.{IsCleared, IsPageSize, row_len};
 ghost use Rattle.pbm_reader.specs.declared.form.Form.TheVariants.{Raw};
@@ -26,12 +27,12 @@ fn fill_row<S: Source>(
     requires short { at + length row.old < 2 ^ 64 }
     requires len { length row.old ≡ row_len width }
     ensures ok { OnOk result ((bits : List ℕ)
-        × Took (left_of (S.view src.old).left feed.old) (left_of (S.view src.new).left feed.new) bits
+        × Took (feed_view (S.view src.old) feed.old) (feed_view (S.view src.new) feed.new) bits
         × (length bits ≡ row_len width) × IsCleared width bits row.new) }
-    ensures fault { IfErr result (BytesFail (left_of (S.view src.old).left feed.old)
-        (left_of (S.view src.new).left feed.new) at (row_len width)) }
+    ensures fault { IfErr result (BytesFail (feed_view (S.view src.old) feed.old)
+        (feed_view (S.view src.new) feed.new) at (row_len width)) }
     ensures drained { result ≡ Err PageFault.ReadFault → feed.new ≡ [] }
-    ensures cause { HasReadCause (S.view src.old).faults (S.view src.new).faults result }
+    ensures cause { HasReadCause (S.view src.old) (S.view src.new) result }
 {
     let count = fill(src, feed, row)?;
     if count < row.len() {
@@ -56,15 +57,15 @@ fn read_row<S: Source, R: RowSink>(
     requires len { length row.old ≡ row_len width }
     requires width { R.width_of rows.old ≡ width }
     requires more { 0 < R.rows_left rows.old }
-    ensures ok { OnOk result (TakesRow R.given width (left_of (S.view src.old).left feed.old)
-        (left_of (S.view src.new).left feed.new) rows.old rows.new) }
+    ensures ok { OnOk result (TakesRow R.given width (feed_view (S.view src.old) feed.old)
+        (feed_view (S.view src.new) feed.new) rows.old rows.new) }
     ensures width { OnOk result (R.width_of rows.new ≡ width) }
     ensures rows { OnOk result (R.rows_left rows.new + 1 ≡ R.rows_left rows.old) }
-    ensures fault { IfErr result (BytesFail (left_of (S.view src.old).left feed.old)
-        (left_of (S.view src.new).left feed.new) at (row_len width)) }
+    ensures fault { IfErr result (BytesFail (feed_view (S.view src.old) feed.old)
+        (feed_view (S.view src.new) feed.new) at (row_len width)) }
     ensures stays { OnErr result (Stays R.unchanged rows.old rows.new) }
     ensures drained { result ≡ Err PageFault.ReadFault → feed.new ≡ [] }
-    ensures cause { HasReadCause (S.view src.old).faults (S.view src.new).faults result }
+    ensures cause { HasReadCause (S.view src.old) (S.view src.new) result }
 {
     fill_row(src, feed, row, width, at)?;
     rows.row(row)?;
@@ -83,14 +84,14 @@ pub(crate) fn read_raw_raster<S: Source, R: RowSink>(
     requires size { IsPageSize header.size.width header.size.height }
     requires width { R.width_of rows.old ≡ header.size.width }
     requires rows { R.rows_left rows.old ≡ header.size.height }
-    ensures ok { IfOk result (λ end. TookRaster R.given (left_of (S.view src.old).left feed.old)
-        (left_of (S.view src.new).left feed.new) Raw header.size.width header.size.height header.len end rows.old rows.new) }
-    ensures fault { IfErr result (RasterFails (left_of (S.view src.old).left feed.old)
-        (left_of (S.view src.new).left feed.new) Raw header.size.width header.size.height header.len) }
-    ensures top { OnErr result (GivenTopRows R.given R.unchanged Raw header.size.width header.size.height
-        (left_of (S.view src.old).left feed.old) rows.old rows.new) }
+    ensures ok { IfOk result (λ end. TookRaster R.given (feed_view (S.view src.old) feed.old)
+        (feed_view (S.view src.new) feed.new) Raw header.size.width header.size.height header.len end rows.old rows.new) }
+    ensures fault { IfErr result (RasterFails (feed_view (S.view src.old) feed.old)
+        (feed_view (S.view src.new) feed.new) Raw header.size.width header.size.height header.len) }
+    ensures top { IfErr result (GivenTopRows R.given R.unchanged Raw header.size.width header.size.height header.len
+        (feed_view (S.view src.old) feed.old) (feed_view (S.view src.new) feed.new) rows.old rows.new) }
     ensures drained { result ≡ Err PageFault.ReadFault → feed.new ≡ [] }
-    ensures cause { HasReadCause (S.view src.old).faults (S.view src.new).faults result }
+    ensures cause { HasReadCause (S.view src.old) (S.view src.new) result }
 {
     let len = row_len(header.size.width);
     let mut row = vec![in alloc; 0; len]?;

@@ -2,7 +2,7 @@
 ghost use Rattle.std.specs.Prelude.{◌≡◌, ◌≤◌, ◌↔◌, [], ◌∷◌, IsTrue, IfErr, OnOk};
 ghost use Rattle.pbm_reader.specs.Spelling.{MayFollow};
 ghost use Rattle.pbm_reader.specs.Reading.{HasReadCause};
-ghost use Rattle.pbm_reader.specs.Left.{left_of};
+ghost use Rattle.pbm_reader.specs.Left.{feed_view};
 ghost use Rattle.pbm_reader.specs.Tail.{RestFails, TailFails, TookRest, TookTail};
 
 use crate::fault::PageFault;
@@ -14,10 +14,10 @@ use layout_outside::Source;
 /// Reads the rest of an input, from this offset on, to its end, and drops it.
 fn skip_rest<S: Source>(src: &mut S, feed: &mut Feed, start: u64) -> Result<(), PageFault>
     requires low { start ≤ 268435456 }
-    ensures ok { OnOk result (TookRest (left_of (S.view src.old).left feed.old) (left_of (S.view src.new).left feed.new) start) }
-    ensures fault { IfErr result (RestFails (left_of (S.view src.old).left feed.old) (left_of (S.view src.new).left feed.new) start) }
+    ensures ok { OnOk result (TookRest (feed_view (S.view src.old) feed.old) (feed_view (S.view src.new) feed.new) start) }
+    ensures fault { IfErr result (RestFails (feed_view (S.view src.old) feed.old) (feed_view (S.view src.new) feed.new) start) }
     ensures drained { result ≡ Err PageFault.ReadFault → feed.new ≡ [] }
-    ensures cause { HasReadCause (S.view src.old).faults (S.view src.new).faults result }
+    ensures cause { HasReadCause (S.view src.old) (S.view src.new) result }
 {
     let mut left = MAX_INPUT - start;
     loop {
@@ -50,10 +50,10 @@ pub(crate) fn read_tail<S: Source>(
     start: u64,
 ) -> Result<(), PageFault>
     requires low { start ≤ 268435456 }
-    ensures ok { OnOk result (TookTail (left_of (S.view src.old).left feed.old) (left_of (S.view src.new).left feed.new) form start) }
-    ensures fault { IfErr result (TailFails (left_of (S.view src.old).left feed.old) (left_of (S.view src.new).left feed.new) form start) }
+    ensures ok { OnOk result (TookTail (feed_view (S.view src.old) feed.old) (feed_view (S.view src.new) feed.new) form start) }
+    ensures fault { IfErr result (TailFails (feed_view (S.view src.old) feed.old) (feed_view (S.view src.new) feed.new) form start) }
     ensures drained { result ≡ Err PageFault.ReadFault → feed.new ≡ [] }
-    ensures cause { HasReadCause (S.view src.old).faults (S.view src.new).faults result }
+    ensures cause { HasReadCause (S.view src.old) (S.view src.new) result }
 {
     let Some(byte) = next_byte(src, feed)? else {
         return Ok(());

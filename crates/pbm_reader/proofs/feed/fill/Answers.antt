@@ -2,16 +2,16 @@ use Rattle.std.proofs.Common.{◌≤◌, ◌-◌, ◌++◌, ◌∙◌, ℕ, List
 use Rattle.std.specs.Io.KnownBytes.{prepend_known}
 use Rattle.std.proofs.lemmas.List.{length-take-le, length-append}
 use borrow.Rule.Slice.PartMut.{post_of}
-use Rattle.pbm_reader.specs.Left.{left_of}
+use Rattle.pbm_reader.specs.Left.{feed_view}
 use Rattle.pbm_reader.proofs.Copied.{take_behind_part}
 use Rattle.pbm_reader.proofs.Taken.{took_more}
 use Rattle.pbm_reader.proofs.feed.fill.Goals as goal
 
 pub loop-at-preserved : goal.loop-at-preserved
 loop-at-preserved g c =
-    let old = left_of (g.S.Source.view c.args.src.now).left c.args.feed.now in
-    let middle = left_of (g.S.Source.view c.loop-at.src).left c.loop-at.feed in
-    let new = left_of (g.S.Source.view c.next_bytes.new.src).left c.next_bytes.new.feed in
+    let old = feed_view (g.S.Source.view c.args.src.now) c.args.feed.now in
+    let middle = feed_view (g.S.Source.view c.loop-at.src) c.loop-at.feed in
+    let new = feed_view (g.S.Source.view c.next_bytes.new.src) c.next_bytes.new.feed in
     let buf = c.loop-at.buf in
     let at = c.loop-at.at in
     let part = c.next_bytes.new.buf in
@@ -20,7 +20,7 @@ loop-at-preserved g c =
     let after = post_of at (length buf - at) buf in
     let inside : at ≤ length buf = omega arith in
     record {
-      took = took_more old middle new (take at buf) (take count part) c.loop-at.invariant.took c.in_ok-count.ensures.bytes ∙ ap (λ (l : List ℕ). prepend_known l new) (sym front);
+      took = took_more old middle new (take at buf) (take count part) c.loop-at.invariant.took c.in_ok-count.ensures.bytes ∙ ap (λ (l : List ℕ). prepend_known l new.left) (sym front);
       within = omega (arith, length-append (take at buf) (part ++ after), length-append part after, length-take-le at buf inside, c.in_ok-count.ensures.bound);
       later = omega arith;
     }

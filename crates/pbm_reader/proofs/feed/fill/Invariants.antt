@@ -1,10 +1,11 @@
 use Rattle.std.proofs.Common.{◌≤◌, ◌-◌, take, length}
-use Rattle.pbm_reader.specs.Left.{left_of, Took}
+use Rattle.layout_outside.specs.Taken.{Took}
+use Rattle.pbm_reader.specs.Left.{feed_view}
 use Rattle.pbm_reader.proofs.feed.fill.Given as goal
 
 abbrev pub invariant-loop-at : goal.invariant-loop-at
 invariant-loop-at g l = record {
-  took : Took (left_of (g.S.Source.view l.initial.src).left l.initial.feed) (left_of (g.S.Source.view l.src).left l.feed) (take l.at l.buf);
+  took : Took (feed_view (g.S.Source.view l.initial.src) l.initial.feed) (feed_view (g.S.Source.view l.src) l.feed) (take l.at l.buf);
   within : l.at ≤ length l.buf;
   later : (g.S.Source.view l.initial.src).faults ≤ (g.S.Source.view l.src).faults;
 }

@@ -1,6 +1,6 @@
 use Rattle.std.proofs.Common.{length, refl, ◌∙◌, arith}
 use Rattle.std.proofs.lemmas.Result.{err_from_is_err_and}
-use Rattle.pbm_reader.specs.Left.{left_of}
+use Rattle.pbm_reader.specs.Left.{feed_view}
 use Rattle.pbm_reader.proofs.PixelLoop.{filling_begins, filling_on, filling_white, filling_fails, filled}
 use Rattle.pbm_reader.proofs.plain.fill_pixels.Goals as goal
 
@@ -8,7 +8,7 @@ pub loop-x-init : goal.loop-x-init
 loop-x-init g c =
     let f = c.whiten.ensures in
     record {
-      filling = filling_begins (left_of (g.S.Source.view c.args.src.now).left c.args.feed.now) c.args.start c.whiten.new.bits c.requires.low f.pixels;
+      filling = filling_begins (feed_view (g.S.Source.view c.args.src.now) c.args.feed.now) c.args.start c.whiten.new.bits c.requires.low f.pixels;
       buffer = f.len ∙ c.requires.len;
       low = c.requires.low;
       later = omega arith;
@@ -16,8 +16,8 @@ loop-x-init g c =
 
 pub put_pixel-requires : goal.put_pixel-requires
 put_pixel-requires g c =
-    let old = left_of (g.S.Source.view c.args.src.now).left c.args.feed.now in
-    let middle = left_of (g.S.Source.view c.loop-x.src).left c.loop-x.feed in
+    let old = feed_view (g.S.Source.view c.args.src.now) c.args.feed.now in
+    let middle = feed_view (g.S.Source.view c.loop-x.src) c.loop-x.feed in
     record {
       within = omega (arith, c.loop-x.invariant.buffer);
       white = filling_white old middle c.args.start c.loop-x.at c.loop-x.x c.loop-x.row c.loop-x.invariant.filling;
@@ -25,9 +25,9 @@ put_pixel-requires g c =
 
 pub loop-x-preserved : goal.loop-x-preserved
 loop-x-preserved g c =
-    let old = left_of (g.S.Source.view c.args.src.now).left c.args.feed.now in
-    let middle = left_of (g.S.Source.view c.loop-x.src).left c.loop-x.feed in
-    let new = left_of (g.S.Source.view c.next_pixel.new.src).left c.next_pixel.new.feed in
+    let old = feed_view (g.S.Source.view c.args.src.now) c.args.feed.now in
+    let middle = feed_view (g.S.Source.view c.loop-x.src) c.loop-x.feed in
+    let new = feed_view (g.S.Source.view c.next_pixel.new.src) c.next_pixel.new.feed in
     let took = c.in_ok-pixel.ensures.pixel in
     record {
       filling = filling_on old middle new c.args.start c.loop-x.at c.in_ok-pixel.pixel.end c.loop-x.x c.in_ok-pixel.pixel.is_black c.loop-x.row c.put_pixel.new.row c.loop-x.invariant.filling
@@ -40,13 +40,13 @@ loop-x-preserved g c =
 pub returns-in_err-pixel-clause-fault : goal.returns-in_err-pixel-clause-fault
 returns-in_err-pixel-clause-fault g c =
     let p = err_from_is_err_and c.from_residual.result c.from_residual.ensures.1 in
-    let old = left_of (g.S.Source.view c.args.src.now).left c.args.feed.now in
-    let middle = left_of (g.S.Source.view c.loop-x.src).left c.loop-x.feed in
-    let new = left_of (g.S.Source.view c.next_pixel.new.src).left c.next_pixel.new.feed in
+    let old = feed_view (g.S.Source.view c.args.src.now) c.args.feed.now in
+    let middle = feed_view (g.S.Source.view c.loop-x.src) c.loop-x.feed in
+    let new = feed_view (g.S.Source.view c.next_pixel.new.src) c.next_pixel.new.feed in
     rw (p.1, p.2) (filling_fails old middle new c.args.start c.loop-x.at c.loop-x.x c.args.width c.loop-x.row c.in_err-pixel.field-0.0 c.loop-x.invariant.filling (omega arith) c.in_err-pixel.ensures.fault)
 
 pub returns-clause-ok : goal.returns-clause-ok
 returns-clause-ok g c =
-    let old = left_of (g.S.Source.view c.args.src.now).left c.args.feed.now in
-    let now = left_of (g.S.Source.view c.loop-x.src).left c.loop-x.feed in
+    let old = feed_view (g.S.Source.view c.args.src.now) c.args.feed.now in
+    let now = feed_view (g.S.Source.view c.loop-x.src) c.loop-x.feed in
     filled old now c.args.start c.loop-x.at c.loop-x.x c.args.width c.loop-x.row c.loop-x.invariant.filling (omega arith) c.loop-x.invariant.buffer
