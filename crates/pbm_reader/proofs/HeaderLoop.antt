@@ -9,7 +9,7 @@ use Rattle.pbm_reader.specs.declared.fault.PageFault.{PageFault}
 use Rattle.pbm_reader.specs.declared.fault.PageFault.TheVariants as faults
 use Rattle.pbm_reader.specs.declared.state.HeaderState.{HeaderState}
 use Rattle.pbm_reader.specs.declared.state.HeaderState.TheVariants.{Magic, Kind, Named, WidthGap, WidthComment, Width, HeightGap, HeightComment, Height, Whole}
-use Rattle.pbm_reader.specs.Page.{IsPageSize}
+use Rattle.packed_rows.specs.Page.{IsPageSize}
 use Rattle.pbm_reader.specs.Spelling.{IsHeader}
 use Rattle.pbm_reader.specs.Header.{next_state, wrong_byte, missing_byte, TookSizes, TookHeader}
 use Rattle.pbm_reader.specs.Fault.{HasFault, HasFaultWithin, IsSizeFault, DecidesNothing, IsTruncated, IsHeaderTooLong}
@@ -20,7 +20,7 @@ use Rattle.pbm_reader.proofs.Taken.{took_more, took_no_more, took_all, prepend_n
 use Rattle.pbm_reader.proofs.Machines.{run, run_append, IsOpen}
 use Rattle.pbm_reader.proofs.HeaderWalk.{is_whole, header_machine, read_header}
 use Rattle.pbm_reader.proofs.Faults.{IsNamed, read_so_far, header_cut, wrong_fault, missing_fault, too_long, size_fault, told_size}
-use Rattle.pbm_reader.proofs.Judged.{has_fault, nothing_undecided, letter_undecided, cut_undecided}
+use Rattle.pbm_reader.proofs.OneFault.{has_fault, nothing_undecided, letter_undecided, cut_undecided}
 
 -- these bytes of a header were taken, and lead to this state
 pub record IsReading (old now : SourceView) (at : ℕ) (state : HeaderState) : Type 0 where

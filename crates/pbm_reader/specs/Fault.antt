@@ -5,7 +5,7 @@ use Rattle.pbm_reader.specs.declared.fault.PageFault.{PageFault}
 use Rattle.pbm_reader.specs.declared.fault.PageFault.TheVariants as faults
 use Rattle.pbm_reader.specs.declared.form.Form.{Form}
 use Rattle.pbm_reader.specs.declared.form.Form.TheVariants.{Plain}
-use Rattle.pbm_reader.specs.Page.{IsPageSize}
+use Rattle.packed_rows.specs.Page.{IsPageSize}
 use Rattle.pbm_reader.specs.Spelling.{IsSomeHeader, HasHeader, IsRaster, MayFollow}
 
 -- the bytes begin with this front
