@@ -2,13 +2,15 @@
 ghost use Rattle.std.specs.Prelude.{◌≡◌};
 ghost use Rattle.pbm_reader.specs.declared.fault.PageFault.TheVariants.{ReadFault, Memory};
 
+use layout_limits::OutOfMemory;
 use layout_outside::Failed;
-use std::alloc::AllocError;
 
 /// The size of a page in pixels.
 #[derive(Debug, Clone, Copy, PartialEq, Eq, Drop)]
 pub struct Size {
+    /// From 1 to `MAX_SIDE`.
     pub width: u16,
+    /// From 1 to `MAX_SIDE`.
     pub height: u16,
 }
 
@@ -52,10 +54,10 @@ impl From<Failed> for PageFault {
     }
 }
 
-impl From<AllocError> for PageFault {
+impl From<OutOfMemory> for PageFault {
     ghost from_gives = { λ _ fault. fault ≡ Memory };
 
-    fn from(_: AllocError) -> PageFault {
+    fn from(_: OutOfMemory) -> PageFault {
         PageFault::Memory
     }
 }

@@ -4,9 +4,11 @@ ghost use Rattle.std.specs.Prelude.{◌≡◌, ◌-◌, ◌<◌, ◌≤◌};
 mod judge;
 mod spaces;
 
-use crate::{PageFault, RowSink, Size, each_input_is_judged, equal_pictures_are_one_page, read_page};
-use layout_limits::OutOfMemory;
+use crate::{
+    PageFault, RowSink, Size, each_input_is_judged, equal_pictures_are_one_page, read_page,
+};
 use judge::judged;
+use layout_limits::OutOfMemory;
 use layout_outside::MemSource;
 use spaces::Spaces;
 use std::alloc::{AllocError, Global};
