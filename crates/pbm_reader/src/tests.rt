@@ -4,7 +4,9 @@ ghost use Rattle.std.specs.Prelude.{◌≡◌, ◌-◌, ◌<◌, ◌≤◌};
 mod judge;
 mod spaces;
 
-use crate::{PageFault, RowSink, Size, each_input_is_judged, equal_pictures_are_one_page, read_page};
+use crate::{
+    PageFault, RowSink, Size, each_input_is_judged, equal_pictures_are_one_page, read_page,
+};
 use judge::judged;
 use layout_limits::OutOfMemory;
 use layout_outside::MemSource;
