@@ -1,6 +1,5 @@
-//! The frontier over the page with a block in its corner, call by call. The functions name the page, which their contracts
-//! speak of, by `_white`.
-ghost use Rattle.std.specs.Prelude.{◌≡◌, All, Contains, IfOk, OnOk};
+//! The frontier over the page with a block in its corner, call by call.
+ghost use Rattle.std.specs.Prelude.{◌≡◌, All, Contains, IfOk, OnOk, IfSome};
 ghost use Rattle.box_search.specs.Leasing.{entry_of};
 ghost use Rattle.whitespace_cover.specs.Problem.{white_numbers};
 ghost use Rattle.whitespace_cover.specs.Regions.{FitsWhite};
@@ -35,35 +34,32 @@ fn begin(alloc: Global, white: &White, root: Node<Rect>) -> Result<Frontier<Rect
     Ok(frontier)
 }
 
-/// Leases an open node, the one of this shape.
-fn lease(rt: &impl Abort, white: &White, frontier: &mut Frontier<Rect>, shape: Shape) -> Lease<Rect>
-    requires { All (FitsWhite (white_numbers white.now)) frontier.old.open_nodes }
-    ensures fitting { All (FitsWhite (white_numbers white.now)) frontier.new.open_nodes }
-    ensures fits { FitsWhite (white_numbers white.now) result.node }
-    ensures out { Contains frontier.new.leased (entry_of result) }
+/// Leases an open node.
+fn lease(white: &White, frontier: &mut Frontier<Rect>) -> Option<Lease<Rect>>
+    requires fitting { All (FitsWhite (white_numbers white.now)) frontier.old.open_nodes }
+    ensures fitting { IfSome result (λ _. All (FitsWhite (white_numbers white.now)) frontier.new.open_nodes) }
+    ensures fits { IfSome result (λ lease. FitsWhite (white_numbers white.now) lease.node) }
+    ensures out { IfSome result (λ lease. Contains frontier.new.leased (entry_of lease)) }
 {
     let _white = white;
     match frontier.lease() {
-        Take::Leased(lease) => {
-            assert_eq!(rt; lease.node.shape, shape);
-            lease
-        }
-        Take::Idle => panic!(rt; "idle"),
-        Take::Done => panic!(rt; "done"),
+        Take::Leased(lease) => Some(lease),
+        Take::Idle => None,
+        Take::Done => None,
     }
 }
 
-/// Looks whether nothing is open and something is out.
-fn look_idle(rt: &impl Abort, white: &White, frontier: &mut Frontier<Rect>)
-    requires { All (FitsWhite (white_numbers white.now)) frontier.old.open_nodes }
-    ensures fitting { All (FitsWhite (white_numbers white.now)) frontier.new.open_nodes }
-    ensures same { frontier.new ≡ frontier.old }
+/// `Some` where nothing is open and something is out.
+fn look_idle(white: &White, frontier: &mut Frontier<Rect>) -> Option<()>
+    requires fitting { All (FitsWhite (white_numbers white.now)) frontier.old.open_nodes }
+    ensures fitting { IfSome result (λ _. All (FitsWhite (white_numbers white.now)) frontier.new.open_nodes) }
+    ensures same { IfSome result (λ _. frontier.new ≡ frontier.old) }
 {
     let _white = white;
     match frontier.lease() {
-        Take::Idle => {}
-        Take::Done => panic!(rt; "done"),
-        Take::Leased(_) => panic!(rt; "leased"),
+        Take::Idle => Some(()),
+        Take::Done => None,
+        Take::Leased(_) => None,
     }
 }
 
@@ -130,6 +126,68 @@ fn settle(
     }
 }
 
+/// The page is leased, alone, and cut into the part right of the block and the part below it.
+fn cut_the_page(
+    rt: &impl Abort,
+    alloc: Global,
+    white: &White,
+    frontier: &mut Frontier<Rect>,
+) -> Result<(), OutOfMemory>
+    requires fitting { All (FitsWhite (white_numbers white.now)) frontier.old.open_nodes }
+    ensures fitting { OnOk result (All (FitsWhite (white_numbers white.now)) frontier.new.open_nodes) }
+{
+    let Some(whole) = lease(white, frontier) else {
+        panic!(rt; "nothing is open");
+    };
+    assert_eq!(rt; whole.number, 0);
+    assert_eq!(rt; whole.node.shape, shape_of(0, 0, 16, 16));
+    let Some(()) = look_idle(white, frontier) else {
+        panic!(rt; "not idle");
+    };
+    let nodes = split(rt, alloc, white, &whole.node)?;
+    assert_eq!(rt; nodes.len(), 2);
+    assert_eq!(rt; nodes[0].shape, shape_of(3, 0, 16, 16));
+    assert_eq!(rt; nodes[1].shape, shape_of(0, 3, 16, 16));
+    finish(white, frontier, whole, nodes, 0)
+}
+
+/// The part right of the block is leased and opened again.
+fn look_at_the_right(
+    rt: &impl Abort,
+    alloc: Global,
+    white: &White,
+    frontier: &mut Frontier<Rect>,
+) -> Result<(), OutOfMemory>
+    requires fitting { All (FitsWhite (white_numbers white.now)) frontier.old.open_nodes }
+    ensures fitting { OnOk result (All (FitsWhite (white_numbers white.now)) frontier.new.open_nodes) }
+{
+    let Some(right) = lease(white, frontier) else {
+        panic!(rt; "nothing is open");
+    };
+    assert_eq!(rt; right.node.shape, shape_of(3, 0, 16, 16));
+    assert_eq!(rt; settle(rt, alloc, white, &right.node)?, RIGHT);
+    reopen(white, frontier, right);
+    Ok(())
+}
+
+/// A part is leased and ended.
+fn end_a_part(
+    rt: &impl Abort,
+    alloc: Global,
+    white: &White,
+    frontier: &mut Frontier<Rect>,
+    shape: Shape,
+) -> Result<(), OutOfMemory>
+    requires fitting { All (FitsWhite (white_numbers white.now)) frontier.old.open_nodes }
+    ensures fitting { OnOk result (All (FitsWhite (white_numbers white.now)) frontier.new.open_nodes) }
+{
+    let Some(part) = lease(white, frontier) else {
+        panic!(rt; "nothing is open");
+    };
+    assert_eq!(rt; part.node.shape, shape);
+    finish(white, frontier, part, Vec::new(alloc), RIGHT)
+}
+
 #[test]
 fn frontier_by_hand(rt: HostRuntime) -> Result<(), Fail> {
     let alloc = rt.alloc();
@@ -138,28 +196,11 @@ fn frontier_by_hand(rt: HostRuntime) -> Result<(), Fail> {
         panic!(rt; "no root");
     };
     let mut frontier = begin(alloc, &white, root)?;
-
-    // The page is leased, alone, and cut into the part right of the block and the part below it.
-    let whole = lease(&rt, &white, &mut frontier, shape_of(0, 0, 16, 16));
-    assert_eq!(rt; whole.number, 0);
-    look_idle(&rt, &white, &mut frontier);
-    let nodes = split(&rt, alloc, &white, &whole.node)?;
-    assert_eq!(rt; nodes.len(), 2);
-    assert_eq!(rt; nodes[0].shape, shape_of(3, 0, 16, 16));
-    assert_eq!(rt; nodes[1].shape, shape_of(0, 3, 16, 16));
-    finish(&white, &mut frontier, whole, nodes, 0)?;
+    cut_the_page(&rt, alloc, &white, &mut frontier)?;
     assert_eq!(rt; (frontier.waiting(), frontier.out()), (2, 0));
-
-    // The part right of the block is leased and opened again.
-    let right = lease(&rt, &white, &mut frontier, shape_of(3, 0, 16, 16));
-    assert_eq!(rt; settle(&rt, alloc, &white, &right.node)?, RIGHT);
-    reopen(&white, &mut frontier, right);
-
-    // Each part is leased and ended.
-    let right = lease(&rt, &white, &mut frontier, shape_of(3, 0, 16, 16));
-    finish(&white, &mut frontier, right, Vec::new(alloc), RIGHT)?;
-    let below = lease(&rt, &white, &mut frontier, shape_of(0, 3, 16, 16));
-    finish(&white, &mut frontier, below, Vec::new(alloc), RIGHT)?;
+    look_at_the_right(&rt, alloc, &white, &mut frontier)?;
+    end_a_part(&rt, alloc, &white, &mut frontier, shape_of(3, 0, 16, 16))?;
+    end_a_part(&rt, alloc, &white, &mut frontier, shape_of(0, 3, 16, 16))?;
     assert!(rt; matches!(frontier.lease(), Take::Done));
     Ok(())
 }

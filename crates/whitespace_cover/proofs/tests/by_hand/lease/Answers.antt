@@ -13,7 +13,7 @@ returns-in-Leased c =
     let P : Node Rect → Type 0 = FitsWhite (white_numbers c.args.white.now) in
     let node : Node Rect = c.in-Leased.lease.node in
     let takes = c.in-Leased.ensures.takes in
-    let all : All P (node ∷ c.lease.new.self.open_nodes) = All-permutation P _ _ takes.opened c.requires in
+    let all : All P (node ∷ c.lease.new.self.open_nodes) = All-permutation P _ _ takes.opened c.requires.fitting in
     record {
       fitting = All-tail P node c.lease.new.self.open_nodes all;
       fits = All-head P node c.lease.new.self.open_nodes all;
