@@ -1,6 +1,6 @@
 -- What a page becomes that takes its rows.
 use Rattle.std.specs.Prelude.{◌≡◌, ℕ, ◌+◌, false, List, nat_eq, if◌then◌else◌}
-use Rattle.pbm_reader.specs.Page.{Page, pixel, IsPageSize}
+use Rattle.packed_rows.specs.Page.{Page, pixel, IsPageSize}
 use Rattle.pbm_reader.specs.Given.{AfterPage}
 use Rattle.page_runs.specs.Packed.{Packed, page_of, rows_of, IsWhole, Holds}
 

@@ -9,33 +9,34 @@ use Rattle.pbm_reader.specs.declared.fault.PageFault.{PageFault}
 use Rattle.pbm_reader.specs.declared.fault.PageFault.TheVariants as faults
 use Rattle.pbm_reader.specs.declared.state.HeaderState.{HeaderState}
 use Rattle.pbm_reader.specs.declared.state.HeaderState.TheVariants.{Magic, Kind, Named, WidthGap, WidthComment, Width, HeightGap, HeightComment, Height, Whole}
-use Rattle.pbm_reader.specs.Page.{IsPageSize}
+use Rattle.packed_rows.specs.Page.{IsPageSize}
 use Rattle.pbm_reader.specs.Spelling.{IsHeader}
-use Rattle.pbm_reader.specs.Header.{next_state, wrong_byte, missing_byte}
+use Rattle.pbm_reader.specs.Header.{next_state, wrong_byte, missing_byte, TookSizes, TookHeader}
 use Rattle.pbm_reader.specs.Fault.{HasFault, HasFaultWithin, IsSizeFault, DecidesNothing, IsTruncated, IsHeaderTooLong}
-use Rattle.pbm_reader.specs.Left.{Took, TookAll, TookSizes, TookHeader}
+use Rattle.layout_outside.specs.Views.{SourceView}
+use Rattle.layout_outside.specs.Taken.{Took, TookAll}
 use Rattle.pbm_reader.specs.Reading.{Refuses}
-use Rattle.pbm_reader.proofs.Taken.{took_more, took_all, prepend_nothing, of_all, of_end}
+use Rattle.pbm_reader.proofs.Taken.{took_more, took_no_more, took_all, prepend_nothing, of_all, of_end}
 use Rattle.pbm_reader.proofs.Machines.{run, run_append, IsOpen}
 use Rattle.pbm_reader.proofs.HeaderWalk.{is_whole, header_machine, read_header}
 use Rattle.pbm_reader.proofs.Faults.{IsNamed, read_so_far, header_cut, wrong_fault, missing_fault, too_long, size_fault, told_size}
-use Rattle.pbm_reader.proofs.Judged.{has_fault, nothing_undecided, letter_undecided, cut_undecided}
+use Rattle.pbm_reader.proofs.OneFault.{has_fault, nothing_undecided, letter_undecided, cut_undecided}
 
 -- these bytes of a header were taken, and lead to this state
-pub record IsReading (old now : Option (List ℕ)) (at : ℕ) (state : HeaderState) : Type 0 where
+pub record IsReading (old now : SourceView) (at : ℕ) (state : HeaderState) : Type 0 where
   pub taken : List ℕ
   pub took : Took old now taken
   pub len : length taken ≡ at
   pub leads : IsOpen header_machine taken state
 
-pub begins : (old : Option (List ℕ)) → IsReading old old 0 Magic
-begins old = record { taken = []; took = prepend_nothing old; len = refl; leads = record { reads = refl; open_yet = refl } }
+pub begins : (old : SourceView) → IsReading old old 0 Magic
+begins old = record { taken = []; took = prepend_nothing old.left; len = refl; leads = record { reads = refl; open_yet = refl } }
 
 one_more : (taken : List ℕ) (byte : ℕ) (state next : HeaderState) → run next_state Magic taken ≡ Some state → next_state state byte ≡ Some next → run next_state Magic (taken ++ byte ∷ []) ≡ Some next
 one_more taken byte state next reads step =
     run_append next_state Magic state taken (byte ∷ []) reads ∙ ap (λ (o : Option HeaderState). option_and_then (λ n. run next_state n []) o) step
 
-pub reading_on : (old middle new : Option (List ℕ)) (at byte : ℕ) (state next : HeaderState) → IsReading old middle at state → Took middle new (byte ∷ [])
+pub reading_on : (old middle new : SourceView) (at byte : ℕ) (state next : HeaderState) → IsReading old middle at state → Took middle new (byte ∷ [])
     → next_state state byte ≡ Some next → is_whole next ≡ false → IsReading old new (at + 1) next
 reading_on old middle new at byte state next r took step o = record {
   taken = r.taken ++ byte ∷ [];
@@ -44,7 +45,7 @@ reading_on old middle new at byte state next r took step o = record {
   leads = record { reads = one_more r.taken byte state next r.leads.reads step; open_yet = o };
 }
 
-pub reading_whole : (old middle new : Option (List ℕ)) (at byte : ℕ) (state : HeaderState) (form : Form) (width height : ℕ) → IsReading old middle at state → Took middle new (byte ∷ [])
+pub reading_whole : (old middle new : SourceView) (at byte : ℕ) (state : HeaderState) (form : Form) (width height : ℕ) → IsReading old middle at state → Took middle new (byte ∷ [])
     → next_state state byte ≡ Some (Whole form width height) → at < 65536 → TookSizes old new (record { form = form; width = width; height = height; len = at + 1 })
 reading_whole old middle new at byte state form width height r took step low =
     let h = read_header (r.taken ++ byte ∷ []) (Whole form width height) (one_more r.taken byte state (Whole form width height) r.leads.reads step) refl in
@@ -86,7 +87,7 @@ not_whole (Whole form width height) other = absurd (other form width height refl
 -- ---- refusals
 
 -- a fault of the input is a refusal
-pub refused : (old new : Option (List ℕ)) (fault : PageFault) → (fault ≡ faults.ReadFault → ⊥) → IfSome old (λ input. HasFault input fault) → Refuses old new fault
+pub refused : (old new : SourceView) (fault : PageFault) → (fault ≡ faults.ReadFault → ⊥) → IfSome old.left (λ input. HasFault input fault) → Refuses old new fault
 refused old new (faults.Magic at) other f = f
 refused old new (faults.Header at) other f = f
 refused old new faults.HeaderTooLong other f = f
@@ -123,7 +124,7 @@ missing_other (HeightComment form width) at e = cc
 missing_other (Height form width height) at e = cc
 missing_other (Whole form width height) at e = cc
 
-pub wrong_fails : (old middle new : Option (List ℕ)) (at byte : ℕ) (state : HeaderState) → IsReading old middle at state → Took middle new (byte ∷ [])
+pub wrong_fails : (old middle new : SourceView) (at byte : ℕ) (state : HeaderState) → IsReading old middle at state → Took middle new (byte ∷ [])
     → next_state state byte ≡ None → at < 65536 → Refuses old new (wrong_byte state at)
 wrong_fails old middle new at byte state r took step low =
     let fault = wrong_byte state at in
@@ -135,7 +136,7 @@ wrong_fails old middle new at byte state r took step low =
     subst P (sym (append_assoc r.taken (byte ∷ []) rest))
     (has_fault (r.taken ++ byte ∷ rest) fault (subst (λ (n : ℕ). HasFaultWithin (r.taken ++ byte ∷ rest) (wrong_byte state n)) r.len here))))
 
-pub end_fails : (old middle new : Option (List ℕ)) (at : ℕ) (state : HeaderState) → IsReading old middle at state → TookAll middle new [] → at ≤ 65536
+pub end_fails : (old middle new : SourceView) (at : ℕ) (state : HeaderState) → IsReading old middle at state → TookAll middle new [] → at ≤ 65536
     → Refuses old new (missing_byte state at)
 end_fails old middle new at state r took low =
     let fault = missing_byte state at in
@@ -146,7 +147,7 @@ end_fails old middle new at state r took low =
     (subst P (sym (append-nil r.taken)) (has_fault r.taken fault (subst (λ (n : ℕ). HasFaultWithin r.taken (missing_byte state n)) r.len here))))
 
 -- the name of a form was read
-named : (old now : Option (List ℕ)) (state : HeaderState) → (r : IsReading old now 65536 state) → IsNamed r.taken state
+named : (old now : SourceView) (state : HeaderState) → (r : IsReading old now 65536 state) → IsNamed r.taken state
 named old now state r =
     elim (read_so_far r.taken state r.leads.reads) [
       | inl m ↦ absurd (omega (arith, ap length m.0, r.len))
@@ -158,7 +159,7 @@ named old now state r =
     ]
 
 -- the input ends behind 65,536 bytes of a header
-pub limit_end : (old middle new : Option (List ℕ)) (state : HeaderState) → IsReading old middle 65536 state → TookAll middle new [] → IfSome old (λ input. IsTruncated input 65536)
+pub limit_end : (old middle new : SourceView) (state : HeaderState) → IsReading old middle 65536 state → TookAll middle new [] → IfSome old.left (λ input. IsTruncated input 65536)
 limit_end old middle new state r took =
     let cut = header_cut r.taken state r.leads (named old middle state r) (omega (arith, r.len)) in
     let P : List ℕ → Type 0 = λ l. IsTruncated l 65536 in
@@ -166,7 +167,7 @@ limit_end old middle new state r took =
     (subst P (sym (append-nil r.taken)) (subst (λ (n : ℕ). IsTruncated r.taken n) r.len cut))
 
 -- the input goes on behind 65,536 bytes of a header
-pub limit_more : (old middle new : Option (List ℕ)) (byte : ℕ) (state : HeaderState) → IsReading old middle 65536 state → Took middle new (byte ∷ []) → IfSome old (λ input. IsHeaderTooLong input)
+pub limit_more : (old middle new : SourceView) (byte : ℕ) (state : HeaderState) → IsReading old middle 65536 state → Took middle new (byte ∷ []) → IfSome old.left (λ input. IsHeaderTooLong input)
 limit_more old middle new byte state r took =
     of_all (λ input. IsHeaderTooLong input) old new (r.taken ++ byte ∷ []) (took_more old middle new r.taken (byte ∷ []) r.took took)
     (λ rest.
@@ -179,10 +180,10 @@ limit_more old middle new byte state r took =
     not_both b p q = cc
 
 -- a read that fails while a header is read decides nothing
-pub reading_undecided : (old new : Option (List ℕ)) (at : ℕ) (state : HeaderState) → IsReading old new at state → at ≤ 65536 → Refuses old new faults.ReadFault
-reading_undecided old new at state r low = (
+pub reading_undecided : (old middle new : SourceView) (at : ℕ) (state : HeaderState) → IsReading old middle at state → Took middle new [] → at ≤ 65536 → Refuses old new faults.ReadFault
+reading_undecided old middle new at state r none low = (
   r.taken,
-  r.took,
+  took_no_more old middle new r.taken r.took none,
   elim (read_so_far r.taken state r.leads.reads) [
     | inl m ↦ subst DecidesNothing (sym m.0) nothing_undecided
     | inr m ↦
@@ -195,7 +196,7 @@ reading_undecided old new at state r low = (
 
 -- ---- the sizes
 
-pub sizes_fail : (old new : Option (List ℕ)) (told : Told) (fault : PageFault) → TookSizes old new told → IsSizeFault told.width told.height fault → Refuses old new fault
+pub sizes_fail : (old new : SourceView) (told : Told) (fault : PageFault) → TookSizes old new told → IsSizeFault told.width told.height fault → Refuses old new fault
 sizes_fail old new told fault t f =
     let P : ℕ → Type 0 = λ n. IsSizeFault n told.height fault in
     let Q : ℕ → Type 0 = λ n. IsSizeFault (min t.width 999999999) n fault in
@@ -217,7 +218,7 @@ sizes_fail old new told fault t f =
     other faults.ReadFault s e = s
     other faults.Memory s e = s
 
-pub header_taken : (old new : Option (List ℕ)) (told : Told) (size : Size) → TookSizes old new told → IsPageSize told.width told.height × (size.width ≡ told.width) × (size.height ≡ told.height)
+pub header_taken : (old new : SourceView) (told : Told) (size : Size) → TookSizes old new told → IsPageSize told.width told.height × (size.width ≡ told.width) × (size.height ≡ told.height)
     → TookHeader old new (record { form = told.form; size = size; len = told.len })
 header_taken old new told size t s =
     let P : ℕ → Type 0 = λ n. IsPageSize n told.height in

@@ -6,20 +6,21 @@ use Rattle.pbm_reader.specs.declared.fault.PageFault.TheVariants as faults
 use Rattle.pbm_reader.specs.declared.form.Form.{Form}
 use Rattle.pbm_reader.specs.declared.form.Form.TheVariants.{Plain, Raw}
 use Rattle.pbm_reader.specs.Spelling.{MayFollow}
-use Rattle.pbm_reader.specs.Left.{Took, TookAll}
+use Rattle.layout_outside.specs.Views.{SourceView}
+use Rattle.layout_outside.specs.Taken.{Took, TookAll}
 use Rattle.pbm_reader.specs.Tail.{TookRest, RestFails, TookTail, TailFails}
 use Rattle.pbm_reader.proofs.Taken.{took_more, took_all, prepend_nothing}
 
 -- these bytes were dropped, and so many may follow them
-pub record IsSkipping (old now : Option (List ℕ)) (start left : ℕ) : Type 0 where
+pub record IsSkipping (old now : SourceView) (start left : ℕ) : Type 0 where
   pub bytes : List ℕ
   pub took : Took old now bytes
   pub total : start + length bytes + left ≡ 268435456
 
-pub skipping_begins : (old : Option (List ℕ)) (start : ℕ) → start ≤ 268435456 → IsSkipping old old start (268435456 - start)
-skipping_begins old start low = record { bytes = []; took = prepend_nothing old; total = omega (arith, low) }
+pub skipping_begins : (old : SourceView) (start : ℕ) → start ≤ 268435456 → IsSkipping old old start (268435456 - start)
+skipping_begins old start low = record { bytes = []; took = prepend_nothing old.left; total = omega (arith, low) }
 
-pub skipping_on : (old middle new : Option (List ℕ)) (start left count : ℕ) (more : List ℕ) → IsSkipping old middle start left → count ≡ length more → Took middle new more → count ≤ left
+pub skipping_on : (old middle new : SourceView) (start left count : ℕ) (more : List ℕ) → IsSkipping old middle start left → count ≡ length more → Took middle new more → count ≤ left
     → IsSkipping old new start (left - count)
 skipping_on old middle new start left count more s len took fits = record {
   bytes = s.bytes ++ more;
@@ -27,19 +28,19 @@ skipping_on old middle new start left count more s len took fits = record {
   total = omega (arith, s.total, length-append s.bytes more, len, fits);
 }
 
-pub skipped : (old middle new : Option (List ℕ)) (start left : ℕ) → IsSkipping old middle start left → TookAll middle new [] → TookRest old new start
+pub skipped : (old middle new : SourceView) (start left : ℕ) → IsSkipping old middle start left → TookAll middle new [] → TookRest old new start
 skipped old middle new start left s end = record {
   bytes = s.bytes ++ [];
   took = took_all old middle new s.bytes [] s.took end;
   low = omega (arith, s.total, length-append s.bytes []);
 }
 
-pub skipping_long : (old middle new : Option (List ℕ)) (start left count : ℕ) (more : List ℕ) → IsSkipping old middle start left → count ≡ length more → Took middle new more → left < count
+pub skipping_long : (old middle new : SourceView) (start left count : ℕ) (more : List ℕ) → IsSkipping old middle start left → count ≡ length more → Took middle new more → left < count
     → RestFails old new start faults.InputTooLong
 skipping_long old middle new start left count more s len took longer =
     (s.bytes ++ more, took_more old middle new s.bytes more s.took took, omega (arith, s.total, length-append s.bytes more, len, longer))
 
-pub skipping_unread : (old now : Option (List ℕ)) (start left : ℕ) → IsSkipping old now start left → RestFails old now start faults.ReadFault
+pub skipping_unread : (old now : SourceView) (start left : ℕ) → IsSkipping old now start left → RestFails old now start faults.ReadFault
 skipping_unread old now start left s = (s.bytes, s.took, omega (arith, s.total))
 
 -- ---- behind the first byte
@@ -48,7 +49,7 @@ follows_more : (form : Form) (byte : ℕ) (bytes : List ℕ) → MayFollow form 
 follows_more Plain byte bytes f = f
 follows_more Raw byte bytes f = absurd f
 
-pub tail_taken : (old middle new : Option (List ℕ)) (form : Form) (start byte : ℕ) → Took old middle (byte ∷ []) → MayFollow form (byte ∷ []) → TookRest middle new (start + 1) → TookTail old new form start
+pub tail_taken : (old middle new : SourceView) (form : Form) (start byte : ℕ) → Took old middle (byte ∷ []) → MayFollow form (byte ∷ []) → TookRest middle new (start + 1) → TookTail old new form start
 tail_taken old middle new form start byte took follows r = record {
   tail = byte ∷ r.bytes;
   took = took_all old middle new (byte ∷ []) r.bytes took r.took;
@@ -56,7 +57,7 @@ tail_taken old middle new form start byte took follows r = record {
   low = let low = r.low in omega (arith, low);
 }
 
-pub tail_fails : (old middle new : Option (List ℕ)) (form : Form) (start byte : ℕ) (fault : PageFault) → Took old middle (byte ∷ []) → MayFollow form (byte ∷ []) → start < 268435456
+pub tail_fails : (old middle new : SourceView) (form : Form) (start byte : ℕ) (fault : PageFault) → Took old middle (byte ∷ []) → MayFollow form (byte ∷ []) → start < 268435456
     → RestFails middle new (start + 1) fault → TailFails old new form start fault
 tail_fails old middle new form start byte faults.InputTooLong took follows low f =
     let room = 268435456 - (start + 1) in
@@ -88,12 +89,12 @@ tail_fails old middle new form start byte (faults.Trailing at) took follows low 
 tail_fails old middle new form start byte faults.Memory took follows low f = absurd f
 
 -- one byte, at the limit
-pub tail_long : (old new : Option (List ℕ)) (form : Form) (start byte : ℕ) → Took old new (byte ∷ []) → start ≡ 268435456 → TailFails old new form start faults.InputTooLong
+pub tail_long : (old new : SourceView) (form : Form) (start byte : ℕ) → Took old new (byte ∷ []) → start ≡ 268435456 → TailFails old new form start faults.InputTooLong
 tail_long old new form start byte took limit = (byte ∷ [], took, ([], byte ∷ [], refl, tt, omega (arith, limit), omega arith))
 
 -- nothing stands behind the raster, or it was not read
-pub tail_ends : (old new : Option (List ℕ)) (form : Form) (start : ℕ) → TookAll old new [] → start ≤ 268435456 → TookTail old new form start
+pub tail_ends : (old new : SourceView) (form : Form) (start : ℕ) → TookAll old new [] → start ≤ 268435456 → TookTail old new form start
 tail_ends old new form start end low = record { tail = []; took = end; follows = tt; low = omega (arith, low) }
 
-pub tail_unread : (old : Option (List ℕ)) (form : Form) (start : ℕ) → start ≤ 268435456 → TailFails old old form start faults.ReadFault
-tail_unread old form start low = ([], prepend_nothing old, tt, omega (arith, low))
+pub tail_unread : (old : SourceView) (form : Form) (start : ℕ) → start ≤ 268435456 → TailFails old old form start faults.ReadFault
+tail_unread old form start low = ([], prepend_nothing old.left, tt, omega (arith, low))

@@ -2,8 +2,9 @@
 use Rattle.std.proofs.Common.{◌≡◌, ℕ, ◌+◌, ◌<◌, List, [], ◌∷◌, ◌++◌, length, take, set, Option, Some, None, refl, sym, ap, ◌∙◌, append_assoc, subst}
 use Rattle.std.specs.Prelude.{IfSome}
 use Rattle.std.proofs.lemmas.List.{append-nil, take_more_set}
-use Rattle.std.specs.Io.KnownBytes.{prepend_known}
-use Rattle.pbm_reader.specs.Left.{Took, TookAll}
+use Rattle.std.specs.Io.KnownBytes.{prepend_known, IsAtEnd}
+use Rattle.layout_outside.specs.Views.{SourceView}
+use Rattle.layout_outside.specs.Taken.{Took, TookAll}
 
 pub prepend_twice : (a b : List ℕ) (known : Option (List ℕ)) → prepend_known (a ++ b) known ≡ prepend_known a (prepend_known b known)
 prepend_twice a b None = refl
@@ -13,34 +14,39 @@ pub prepend_nothing : (known : Option (List ℕ)) → known ≡ prepend_known []
 prepend_nothing None = refl
 prepend_nothing (Some xs) = refl
 
-pub took_more : (old middle new : Option (List ℕ)) (a b : List ℕ) → Took old middle a → Took middle new b → Took old new (a ++ b)
-took_more old middle new a b p q = p ∙ ap (λ (k : Option (List ℕ)). prepend_known a k) q ∙ sym (prepend_twice a b new)
+pub took_more : (old middle new : SourceView) (a b : List ℕ) → Took old middle a → Took middle new b → Took old new (a ++ b)
+took_more old middle new a b p q = p ∙ ap (λ (k : Option (List ℕ)). prepend_known a k) q ∙ sym (prepend_twice a b new.left)
+
+-- a read that failed took nothing
+pub took_no_more : (old middle new : SourceView) (a : List ℕ) → Took old middle a → Took middle new [] → Took old new a
+took_no_more old middle new a p q = p ∙ ap (λ (k : Option (List ℕ)). prepend_known a k) (q ∙ sym (prepend_nothing new.left))
 
 -- one more byte of a buffer
-pub took_byte : (old middle new : Option (List ℕ)) (row : List ℕ) (i byte : ℕ) → i < length row
+pub took_byte : (old middle new : SourceView) (row : List ℕ) (i byte : ℕ) → i < length row
     → Took old middle (take i row) → Took middle new (byte ∷ []) → Took old new (take (i + 1) (set row i byte))
 took_byte old middle new row i byte within p q =
     took_more old middle new (take i row) (byte ∷ []) p q
-    ∙ ap (λ (l : List ℕ). prepend_known l new) (sym (take_more_set row i byte within))
+    ∙ ap (λ (l : List ℕ). prepend_known l new.left) (sym (take_more_set row i byte within))
 
-pub took_all : (old middle new : Option (List ℕ)) (a b : List ℕ) → Took old middle a → TookAll middle new b → TookAll old new (a ++ b)
+pub took_all : (old middle new : SourceView) (a b : List ℕ) → Took old middle a → TookAll middle new b → TookAll old new (a ++ b)
 took_all old middle new a b p q = record { took = took_more old middle new a b p q.took; end = q.end }
 
 subst_known : (P : List ℕ → Type 0) (a b : Option (List ℕ)) → a ≡ b → IfSome b P → IfSome a P
 subst_known P a b e h = subst (λ (k : Option (List ℕ)). IfSome k P) (sym e) h
 
+from_known : (P : List ℕ → Type 0) (old new : Option (List ℕ)) (taken : List ℕ) → old ≡ prepend_known taken new → ((rest : List ℕ) → P (taken ++ rest)) → IfSome old P
+from_known P old None taken took holds = subst_known P old None took tt
+from_known P old (Some ys) taken took holds = subst_known P old (Some (taken ++ ys)) took (holds ys)
+
 -- what holds of the bytes taken, whatever follows them, holds of what was left
-pub of_all : (P : List ℕ → Type 0) (old new : Option (List ℕ)) (taken : List ℕ) → Took old new taken → ((rest : List ℕ) → P (taken ++ rest)) → IfSome old P
-of_all P old None taken took holds = subst_known P old None took tt
-of_all P old (Some ys) taken took holds = subst_known P old (Some (taken ++ ys)) took (holds ys)
+pub of_all : (P : List ℕ → Type 0) (old new : SourceView) (taken : List ℕ) → Took old new taken → ((rest : List ℕ) → P (taken ++ rest)) → IfSome old.left P
+of_all P old new taken took holds = from_known P old.left new.left taken took holds
+
+at_end : (P : List ℕ → Type 0) (old new : Option (List ℕ)) (taken : List ℕ) → old ≡ prepend_known taken new → IsAtEnd new → P taken → IfSome old P
+at_end P old None taken took end holds = subst_known P old None took tt
+at_end P old (Some ys) taken took end holds =
+    subst_known P old (Some (taken ++ ys)) took (subst P (sym (ap (λ (l : List ℕ). taken ++ l) end ∙ append-nil taken)) holds)
 
 -- what holds of all bytes, taken to the end, holds of what was left
-pub of_end : (P : List ℕ → Type 0) (old new : Option (List ℕ)) (taken : List ℕ) → TookAll old new taken → P taken → IfSome old P
-of_end P old None taken took holds = subst_known P old None took.took tt
-of_end P old (Some ys) taken took holds =
-    subst_known P old (Some (taken ++ ys)) took.took (subst P (sym (ap (λ (l : List ℕ). taken ++ l) took.end ∙ append-nil taken)) holds)
-
--- all that was left is what was taken and what is left now, where that is told
-pub all_left : (old now : Option (List ℕ)) (taken : List ℕ) → Took old now taken → (rest : List ℕ) × IfSome old (λ bytes. bytes ≡ taken ++ rest)
-all_left old None taken took = ([], subst_known (λ bytes. bytes ≡ taken ++ []) old None took tt)
-all_left old (Some ys) taken took = (ys, subst_known (λ bytes. bytes ≡ taken ++ ys) old (Some (taken ++ ys)) took refl)
+pub of_end : (P : List ℕ → Type 0) (old new : SourceView) (taken : List ℕ) → TookAll old new taken → P taken → IfSome old.left P
+of_end P old new taken took holds = at_end P old.left new.left taken took.took took.end.nothing holds

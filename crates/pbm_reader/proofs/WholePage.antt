@@ -1,7 +1,8 @@
 -- A page is read exactly where the input spells one, and each refusal is the fault of the input.
-use Rattle.std.proofs.Common.{◌≡◌, ℕ, ◌+◌, ◌*◌, ◌⊎◌, ◌<◌, ◌≤◌, List, [], ◌∷◌, ◌++◌, length, Option, Some, None, Result, Ok, Err, refl, sym, ap, subst, ◌∙◌, append_assoc, append-nil, inl, inr, arith}
+use Rattle.std.proofs.Common.{◌≡◌, ℕ, ◌+◌, ◌*◌, ◌⊎◌, ◌<◌, ◌≤◌, true, false, List, [], ◌∷◌, ◌++◌, length, Option, Some, None, Result, Ok, Err, refl, sym, ap, subst, ◌∙◌, append_assoc, append-nil, inl, inr, arith}
 use Rattle.std.specs.Prelude.{IfSome, IfOk, IfErr, IsErr, IsOkUnless}
 use Rattle.std.proofs.lemmas.List.{length-append}
+use Rattle.std.specs.Io.KnownBytes.{prepend_known, IsAtEnd}
 use Rattle.layout_outside.specs.Causes.{Rose}
 use Rattle.pbm_reader.specs.declared.header.Header.{Header}
 use Rattle.pbm_reader.specs.declared.fault.Size.{Size}
@@ -9,17 +10,19 @@ use Rattle.pbm_reader.specs.declared.fault.PageFault.{PageFault}
 use Rattle.pbm_reader.specs.declared.fault.PageFault.TheVariants as faults
 use Rattle.pbm_reader.specs.declared.form.Form.{Form}
 use Rattle.pbm_reader.specs.declared.form.Form.TheVariants.{Plain, Raw}
-use Rattle.pbm_reader.specs.Page.{Page, IsPageSize, row_len}
+use Rattle.packed_rows.specs.Page.{Page, IsPageSize, row_len}
 use Rattle.pbm_reader.specs.Spelling.{IsHeader, IsRaster, MayFollow, SpellsRows, IsPage, pixels_page, raster_page, Spells}
 use Rattle.pbm_reader.specs.Fault.{IsFrontOf, HasPageHeader, HasFault, IsTruncated, IsPixelFault, IsTrailing, IsInputTooLong}
-use Rattle.pbm_reader.specs.Given.{AfterRows, AfterFault, HasTopRows}
-use Rattle.pbm_reader.specs.Raster.{RasterFails, TookRaster, GivenTopRows}
+use Rattle.pbm_reader.specs.Given.{AfterRows}
+use Rattle.pbm_reader.specs.Raster.{RasterFails, TookRaster}
 use Rattle.pbm_reader.specs.Tail.{TailFails, TookTail}
-use Rattle.pbm_reader.specs.Left.{left_of, Took, TookAll, TookHeader}
+use Rattle.layout_outside.specs.Views.{SourceView}
+use Rattle.layout_outside.specs.Taken.{Took, TookAll}
+use Rattle.pbm_reader.specs.Header.{TookHeader}
 use Rattle.pbm_reader.specs.Reading.{HasReadCause, ReadsPage, Refuses}
-use Rattle.pbm_reader.proofs.Taken.{took_more, took_all, prepend_nothing, of_all, of_end, all_left}
+use Rattle.pbm_reader.proofs.Taken.{took_more, took_all, prepend_nothing, of_all, of_end}
 use Rattle.pbm_reader.proofs.Faults.{raster_ends}
-use Rattle.pbm_reader.proofs.Judged.{one_fault, page_has_no_fault, page_undecided, cut_undecided, long_fault}
+use Rattle.pbm_reader.proofs.OneFault.{one_fault, page_has_no_fault, page_undecided, cut_undecided, long_fault}
 
 -- ---- refusals in the raster
 
@@ -63,8 +66,8 @@ pixel_fault header bytes part rest byte at h size short plain begins wrong is lo
     })
 
 -- a byte behind 268,435,456 bytes that spell a page or end too early
-long : (old new : Option (List ℕ)) (front behind taken : List ℕ) → Took old new taken → taken ≡ front ++ behind → length front ≡ 268435456 → 0 < length behind
-    → IsPage front ⊎ ((at : ℕ) × IsTruncated front at) → IfSome old (λ input. IsInputTooLong input)
+long : (old new : SourceView) (front behind taken : List ℕ) → Took old new taken → taken ≡ front ++ behind → length front ≡ 268435456 → 0 < length behind
+    → IsPage front ⊎ ((at : ℕ) × IsTruncated front at) → IfSome old.left (λ input. IsInputTooLong input)
 long old new front behind taken took split len more part =
     of_all (λ input. IsInputTooLong input) old new taken took
     (λ rest.
@@ -72,7 +75,7 @@ long old new front behind taken took split len more part =
     let P : List ℕ → Type 0 = λ l. IsInputTooLong l in
     subst P (sym all) (long_fault front (behind ++ rest) len (omega (arith, more, length-append behind rest)) part))
 
-pub raster_refuses : (old middle new : Option (List ℕ)) (header : Header) (fault : PageFault) → TookHeader old middle header
+pub raster_refuses : (old middle new : SourceView) (header : Header) (fault : PageFault) → TookHeader old middle header
     → RasterFails middle new header.form header.size.width header.size.height header.len fault → Refuses old new fault
 raster_refuses old middle new header (faults.Truncated at) t f =
     of_end (λ input. IsTruncated input at) old new (t.bytes ++ f.0) (took_all old middle new t.bytes f.0 t.took f.1)
@@ -102,7 +105,7 @@ raster_refuses old middle new header (faults.Trailing at) t f = absurd f
 -- ---- refusals behind the raster
 
 -- a header, its raster and what may follow spell the page that was given
-spells : {Sink : Type 0} (given : Sink → List ℕ → Sink → Type 0) (old middle later : Option (List ℕ)) (header : Header) (end : ℕ) (empty after : Sink) (tail : List ℕ)
+spells : {Sink : Type 0} (given : Sink → List ℕ → Sink → Type 0) (old middle later : SourceView) (header : Header) (end : ℕ) (empty after : Sink) (tail : List ℕ)
     → (t : TookHeader old middle header) → (r : TookRaster given middle later header.form header.size.width header.size.height header.len end empty after)
     → MayFollow header.form tail → end + length tail ≤ 268435456 → Spells (t.bytes ++ (r.raster ++ tail)) r.page
 spells given old middle later header end empty after tail t r follows low =
@@ -129,7 +132,7 @@ rows_raster : (form : Form) (page : Page) (raster : List ℕ) → SpellsRows for
 rows_raster Plain page raster rows = (rows.0, rows.1, rows.2)
 rows_raster Raw page raster rows = rows.0
 
-trailing : {Sink : Type 0} (given : Sink → List ℕ → Sink → Type 0) (old middle later : Option (List ℕ)) (header : Header) (end : ℕ) (empty after : Sink) (byte : ℕ) (rest : List ℕ)
+trailing : {Sink : Type 0} (given : Sink → List ℕ → Sink → Type 0) (old middle later : SourceView) (header : Header) (end : ℕ) (empty after : Sink) (byte : ℕ) (rest : List ℕ)
     → (t : TookHeader old middle header) → (r : TookRaster given middle later header.form header.size.width header.size.height header.len end empty after)
     → (MayFollow header.form (byte ∷ []) → ⊥) → end < 268435456 → IsTrailing ((t.bytes ++ (r.raster ++ byte ∷ [])) ++ rest) end
 trailing given old middle later header end empty after byte rest t r refused low =
@@ -158,14 +161,14 @@ trailing given old middle later header end empty after byte rest t r refused low
     })
 
 -- what was taken up to a tail
-took_three : (old middle later new : Option (List ℕ)) (a b c : List ℕ) → Took old middle a → Took middle later b → Took later new c → Took old new (a ++ (b ++ c))
+took_three : (old middle later new : SourceView) (a b c : List ℕ) → Took old middle a → Took middle later b → Took later new c → Took old new (a ++ (b ++ c))
 took_three old middle later new a b c p q r = took_more old middle new a (b ++ c) p (took_more middle later new b c q r)
 
-pub tail_refuses : {Sink : Type 0} (given : Sink → List ℕ → Sink → Type 0) (old middle later new : Option (List ℕ)) (header : Header) (end : ℕ) (empty after : Sink) (fault : PageFault)
+pub tail_refuses : {Sink : Type 0} (given : Sink → List ℕ → Sink → Type 0) (old middle later new : SourceView) (header : Header) (end : ℕ) (empty after : Sink) (fault : PageFault)
     → TookHeader old middle header → TookRaster given middle later header.form header.size.width header.size.height header.len end empty after
     → TailFails later new header.form end fault → Refuses old new fault
 tail_refuses given old middle later new header end empty after (faults.Trailing at) t r f =
-    let P : ℕ → Type 0 = λ n. IfSome old (λ input. IsTrailing input n) in
+    let P : ℕ → Type 0 = λ n. IfSome old.left (λ input. IsTrailing input n) in
     let low = f.4 in
     subst P (sym f.3)
     (of_all (λ input. IsTrailing input end) old new (t.bytes ++ (r.raster ++ f.0 ∷ [])) (took_three old middle later new t.bytes r.raster (f.0 ∷ []) t.took r.took f.1)
@@ -192,76 +195,10 @@ tail_refuses given old middle later new header end empty after (faults.Truncated
 tail_refuses given old middle later new header end empty after (faults.Pixel at) t r f = absurd f
 tail_refuses given old middle later new header end empty after faults.Memory t r f = absurd f
 
--- ---- the sink after a fault
-
--- top rows of the raster are top rows of the page
-pub top_rows : {Sink : Type 0} (begun : Sink → ℕ → ℕ → Sink → Type 0) (given : Sink → List ℕ → Sink → Type 0) (unchanged : Sink → Sink → Type 0)
-    (old middle : Option (List ℕ)) (header : Header) (before empty after : Sink) → TookHeader old middle header → begun before header.size.width header.size.height empty
-    → GivenTopRows given unchanged header.form header.size.width header.size.height middle empty after → AfterFault begun given unchanged old before after
-top_rows begun given unchanged old middle header before empty after t b g =
-    inr (record {
-      form = header.form;
-      width = header.size.width;
-      height = header.size.height;
-      header = t.bytes;
-      behind = g.behind;
-      input = all_behind old middle t.bytes g.behind t.took g.all;
-      is_header = t.is_header;
-      empty = empty;
-      begins = b;
-      count = g.count;
-      page = g.page;
-      whole = g.whole;
-      top = g.top;
-      rows = g.rows;
-      stays = g.stays;
-    })
-  where
-    all_behind : (old middle : Option (List ℕ)) (taken behind : List ℕ) → Took old middle taken → IfSome middle (λ bytes. bytes ≡ behind) → IfSome old (λ input. input ≡ taken ++ behind)
-    all_behind None middle taken behind took all = tt
-    all_behind (Some input) None taken behind took all = absurd cc
-    all_behind (Some input) (Some bytes) taken behind took all = some_is input (taken ++ bytes) took ∙ ap (λ (l : List ℕ). taken ++ l) all
-      where
-        some_is : (a b : List ℕ) → (let o : Option (List ℕ) = Some a in o) ≡ Some b → a ≡ b
-        some_is a b e = cc
-
-all_top : (form : Form) (page : Page) (width height : ℕ) (raster rest : List ℕ) → page.width ≡ width → page.height ≡ height → SpellsRows form page raster
-    → HasTopRows form width height (raster ++ rest) height page
-all_top Plain page width height raster rest wide high rows =
-    let same : height * width ≡ page.height * page.width = sym (ap (λ (n : ℕ). n * page.width) high ∙ ap (λ (n : ℕ). height * n) wide) in (
-      rows.0,
-      raster,
-      rest,
-      refl,
-      rows.2,
-      omega (arith, rows.1, same),
-      rows.3 ∙ ap (λ (n : ℕ). pixels_page n page.height rows.0) wide ∙ ap (λ (n : ℕ). pixels_page width n rows.0) high,
-    )
-all_top Raw page width height raster rest wide high rows =
-    let same : height * row_len width ≡ page.height * row_len page.width = sym (ap (λ (n : ℕ). n * row_len page.width) high ∙ ap (λ (n : ℕ). height * row_len n) wide) in
-    (raster, rest, refl, omega (arith, rows.0, same), rows.1 ∙ ap (λ (n : ℕ). raster_page n page.height raster) wide ∙ ap (λ (n : ℕ). raster_page width n raster) high)
-
--- all rows were given, and then the page was refused
-pub all_rows_given : {Sink : Type 0} (given : Sink → List ℕ → Sink → Type 0) (unchanged : Sink → Sink → Type 0) (old now : Option (List ℕ)) (header : Header) (end : ℕ) (empty after : Sink)
-    → TookRaster given old now header.form header.size.width header.size.height header.len end empty after
-    → GivenTopRows given unchanged header.form header.size.width header.size.height old empty after
-all_rows_given given unchanged old now header end empty after r =
-    let a = all_left old now r.raster r.took in
-    record {
-      behind = r.raster ++ a.0;
-      all = a.1;
-      count = header.size.height;
-      page = r.page;
-      whole = all_top header.form r.page header.size.width header.size.height r.raster a.0 r.width_is r.height_is r.rows;
-      top = after;
-      rows = r.gives;
-      stays = inl refl;
-    }
-
 -- ---- a page
 
 pub page_read : {Sink : Type 0} (begun : Sink → ℕ → ℕ → Sink → Type 0) (given : Sink → List ℕ → Sink → Type 0)
-    (old middle later new : Option (List ℕ)) (header : Header) (end : ℕ) (before empty after : Sink)
+    (old middle later new : SourceView) (header : Header) (end : ℕ) (before empty after : Sink)
     → TookHeader old middle header → begun before header.size.width header.size.height empty
     → TookRaster given middle later header.form header.size.width header.size.height header.len end empty after
     → TookTail later new header.form end → ReadsPage begun given old new before after header.size
@@ -279,95 +216,66 @@ page_read begun given old middle later new header end before empty after t b r q
       sink = record { empty = empty; begins = subst C (sym r.height_is) (subst B (sym r.width_is) b); rows = subst R (sym r.height_is) r.gives };
     }
 
--- ---- a feed that begins empty
-
-pub from_empty : (old : Option (List ℕ)) (first : List ℕ) → first ≡ [] → left_of old first ≡ old
-from_empty old first e = ap (λ (l : List ℕ). left_of old l) e ∙ sym (prepend_nothing old)
-
--- where the end was met nothing was left in the feed
-unfed : (old source : Option (List ℕ)) (unread bytes : List ℕ) → TookAll old (left_of source unread) bytes → TookAll old source bytes
-unfed old None unread bytes t = record { took = t.took; end = tt }
-unfed old (Some ys) unread bytes t =
-    let none : ys ≡ [] = nothing unread ys t.end in
-    record { took = t.took ∙ ap (λ (l : List ℕ). Some (bytes ++ l)) (t.end ∙ sym none); end = none }
-  where
-    nothing : (xs ys : List ℕ) → xs ++ ys ≡ [] → ys ≡ []
-    nothing [] ys e = e
-    nothing (x ∷ xs) ys e = absurd (omega (arith, ap length e))
-
-pub page_from : {Sink : Type 0} (begun : Sink → ℕ → ℕ → Sink → Type 0) (given : Sink → List ℕ → Sink → Type 0) (old source : Option (List ℕ)) (first unread : List ℕ)
-    (before after : Sink) (result : Result Size PageFault) → first ≡ [] → IfOk result (ReadsPage begun given (left_of old first) (left_of source unread) before after)
-    → IfOk result (ReadsPage begun given old source before after)
-page_from begun given old source first unread before after (Ok size) e r =
-    let P : Option (List ℕ) → Type 0 = λ k. TookAll k source r.input in
-    record {
-      input = r.input;
-      page = r.page;
-      took = subst P (from_empty old first e) (unfed (left_of old first) source unread r.input r.took);
-      spells = r.spells;
-      width_is = r.width_is;
-      height_is = r.height_is;
-      sink = r.sink;
-    }
-page_from begun given old source first unread before after (Err fault) e r = tt
-
 -- ---- what spells a page is read
 
-known_fault : (old : Option (List ℕ)) (input : List ℕ) (page : Page) (fault : PageFault) → old ≡ Some input → Spells input page → IfSome old (λ input. HasFault input fault) → ⊥
+known_fault : (old : SourceView) (input : List ℕ) (page : Page) (fault : PageFault) → old.left ≡ Some input → Spells input page → IfSome old.left (λ input. HasFault input fault) → ⊥
 known_fault old input page fault told p h =
     let P : Option (List ℕ) → Type 0 = λ k. IfSome k (λ input. HasFault input fault) in
     page_has_no_fault input page fault p (subst P told h)
 
 -- the only refusal of a page where no read failed is want of memory
-pub only_memory : (old new : Option (List ℕ)) (before now : ℕ) (result : Result Size PageFault) (input : List ℕ) → IfErr result (Refuses old new) → HasReadCause before now result
-    → old ≡ Some input → IsPage input → (Rose before now → ⊥) → IsOkUnless result faults.Memory
-only_memory old new before now (Ok size) input refuses cause told p calm = tt
-only_memory old new before now (Err faults.Memory) input refuses cause told p calm = refl
-only_memory old new before now (Err faults.ReadFault) input refuses cause told p calm = absurd (calm (cause.failed refl))
-only_memory old new before now (Err (faults.Magic at)) input refuses cause told p calm = absurd (known_fault old input p.0 (faults.Magic at) told p.1 refuses)
-only_memory old new before now (Err (faults.Header at)) input refuses cause told p calm = absurd (known_fault old input p.0 (faults.Header at) told p.1 refuses)
-only_memory old new before now (Err faults.HeaderTooLong) input refuses cause told p calm = absurd (known_fault old input p.0 faults.HeaderTooLong told p.1 refuses)
-only_memory old new before now (Err faults.ZeroSize) input refuses cause told p calm = absurd (known_fault old input p.0 faults.ZeroSize told p.1 refuses)
-only_memory old new before now (Err (faults.TooLarge wide high)) input refuses cause told p calm = absurd (known_fault old input p.0 (faults.TooLarge wide high) told p.1 refuses)
-only_memory old new before now (Err (faults.Truncated at)) input refuses cause told p calm = absurd (known_fault old input p.0 (faults.Truncated at) told p.1 refuses)
-only_memory old new before now (Err (faults.Pixel at)) input refuses cause told p calm = absurd (known_fault old input p.0 (faults.Pixel at) told p.1 refuses)
-only_memory old new before now (Err (faults.Trailing at)) input refuses cause told p calm = absurd (known_fault old input p.0 (faults.Trailing at) told p.1 refuses)
-only_memory old new before now (Err faults.InputTooLong) input refuses cause told p calm = absurd (known_fault old input p.0 faults.InputTooLong told p.1 refuses)
+pub only_memory : (old new : SourceView) (result : Result Size PageFault) (input : List ℕ) → IfErr result (Refuses old new) → HasReadCause old new result
+    → old.left ≡ Some input → IsPage input → (Rose old.faults new.faults → ⊥) → IsOkUnless result faults.Memory
+only_memory old new (Ok size) input refuses cause told p calm = tt
+only_memory old new (Err faults.Memory) input refuses cause told p calm = refl
+only_memory old new (Err faults.ReadFault) input refuses cause told p calm = absurd (calm (cause.failed refl))
+only_memory old new (Err (faults.Magic at)) input refuses cause told p calm = absurd (known_fault old input p.0 (faults.Magic at) told p.1 refuses)
+only_memory old new (Err (faults.Header at)) input refuses cause told p calm = absurd (known_fault old input p.0 (faults.Header at) told p.1 refuses)
+only_memory old new (Err faults.HeaderTooLong) input refuses cause told p calm = absurd (known_fault old input p.0 faults.HeaderTooLong told p.1 refuses)
+only_memory old new (Err faults.ZeroSize) input refuses cause told p calm = absurd (known_fault old input p.0 faults.ZeroSize told p.1 refuses)
+only_memory old new (Err (faults.TooLarge wide high)) input refuses cause told p calm = absurd (known_fault old input p.0 (faults.TooLarge wide high) told p.1 refuses)
+only_memory old new (Err (faults.Truncated at)) input refuses cause told p calm = absurd (known_fault old input p.0 (faults.Truncated at) told p.1 refuses)
+only_memory old new (Err (faults.Pixel at)) input refuses cause told p calm = absurd (known_fault old input p.0 (faults.Pixel at) told p.1 refuses)
+only_memory old new (Err (faults.Trailing at)) input refuses cause told p calm = absurd (known_fault old input p.0 (faults.Trailing at) told p.1 refuses)
+only_memory old new (Err faults.InputTooLong) input refuses cause told p calm = absurd (known_fault old input p.0 faults.InputTooLong told p.1 refuses)
 
-known_all : (old new : Option (List ℕ)) (input taken : List ℕ) → old ≡ Some input → TookAll old new taken → taken ≡ input
-known_all old None input taken told t = absurd (never old input told t.took)
+known_all : (old new : SourceView) (input taken : List ℕ) → old.left ≡ Some input → TookAll old new taken → taken ≡ input
+known_all old new input taken told t = all_of old.left new.left told t.took t.end.nothing
   where
     never : (o : Option (List ℕ)) (l : List ℕ) → o ≡ Some l → o ≡ None → ⊥
     never o l p q = cc
-known_all old (Some ys) input taken told t =
-    let all : taken ++ ys ≡ taken = ap (λ (l : List ℕ). taken ++ l) t.end ∙ append-nil taken in
-    some_is taken input (ap (λ (l : List ℕ). Some l) (sym all) ∙ sym t.took ∙ told)
-  where
+
     some_is : (a b : List ℕ) → (let o : Option (List ℕ) = Some a in o) ≡ Some b → a ≡ b
     some_is a b e = cc
 
-same_fault : (old : Option (List ℕ)) (input : List ℕ) (answer fault : PageFault) → old ≡ Some input → IfSome old (λ input. HasFault input answer) → HasFault input fault → answer ≡ fault
+    all_of : (o n : Option (List ℕ)) → o ≡ Some input → o ≡ prepend_known taken n → IsAtEnd n → taken ≡ input
+    all_of o None told took end = absurd (never o input told took)
+    all_of o (Some ys) told took end =
+        let all : taken ++ ys ≡ taken = ap (λ (l : List ℕ). taken ++ l) end ∙ append-nil taken in
+        some_is taken input (ap (λ (l : List ℕ). Some l) (sym all) ∙ sym took ∙ told)
+
+same_fault : (old : SourceView) (input : List ℕ) (answer fault : PageFault) → old.left ≡ Some input → IfSome old.left (λ input. HasFault input answer) → HasFault input fault → answer ≡ fault
 same_fault old input answer fault told h f =
     let P : Option (List ℕ) → Type 0 = λ k. IfSome k (λ input. HasFault input answer) in
     one_fault input answer fault (subst P told h) f
 
 -- the fault of the input, where no read failed, is what is answered unless memory is refused
 pub only_fault : {Sink : Type 0} (begun : Sink → ℕ → ℕ → Sink → Type 0) (given : Sink → List ℕ → Sink → Type 0)
-    (old new : Option (List ℕ)) (start sink : Sink) (before now : ℕ) (result : Result Size PageFault) (input : List ℕ) (fault : PageFault)
-    → IfOk result (ReadsPage begun given old new start sink) → IfErr result (Refuses old new) → HasReadCause before now result
-    → old ≡ Some input → HasFault input fault → (Rose before now → ⊥) → IsErr result × IfErr result (λ answer. (answer ≡ fault) ⊎ (answer ≡ faults.Memory))
-only_fault begun given old new start sink before now (Ok size) input fault reads refuses cause told f calm =
+    (old new : SourceView) (start sink : Sink) (result : Result Size PageFault) (input : List ℕ) (fault : PageFault)
+    → IfOk result (ReadsPage begun given old new start sink) → IfErr result (Refuses old new) → HasReadCause old new result
+    → old.left ≡ Some input → HasFault input fault → (Rose old.faults new.faults → ⊥) → IsErr result × IfErr result (λ answer. (answer ≡ fault) ⊎ (answer ≡ faults.Memory))
+only_fault begun given old new start sink (Ok size) input fault reads refuses cause told f calm =
     let P : List ℕ → Type 0 = λ l. Spells l reads.page in
     absurd (page_has_no_fault input reads.page fault (subst P (known_all old new input reads.input told reads.took) reads.spells) f)
-only_fault begun given old new start sink before now (Err faults.Memory) input fault reads refuses cause told f calm = (refl, inr refl)
-only_fault begun given old new start sink before now (Err faults.ReadFault) input fault reads refuses cause told f calm = absurd (calm (cause.failed refl))
-only_fault begun given old new start sink before now (Err (faults.Magic at)) input fault reads refuses cause told f calm = (refl, inl (same_fault old input (faults.Magic at) fault told refuses f))
-only_fault begun given old new start sink before now (Err (faults.Header at)) input fault reads refuses cause told f calm = (refl, inl (same_fault old input (faults.Header at) fault told refuses f))
-only_fault begun given old new start sink before now (Err faults.HeaderTooLong) input fault reads refuses cause told f calm = (refl, inl (same_fault old input faults.HeaderTooLong fault told refuses f))
-only_fault begun given old new start sink before now (Err faults.ZeroSize) input fault reads refuses cause told f calm = (refl, inl (same_fault old input faults.ZeroSize fault told refuses f))
-only_fault begun given old new start sink before now (Err (faults.TooLarge wide high)) input fault reads refuses cause told f calm =
+only_fault begun given old new start sink (Err faults.Memory) input fault reads refuses cause told f calm = (refl, inr refl)
+only_fault begun given old new start sink (Err faults.ReadFault) input fault reads refuses cause told f calm = absurd (calm (cause.failed refl))
+only_fault begun given old new start sink (Err (faults.Magic at)) input fault reads refuses cause told f calm = (refl, inl (same_fault old input (faults.Magic at) fault told refuses f))
+only_fault begun given old new start sink (Err (faults.Header at)) input fault reads refuses cause told f calm = (refl, inl (same_fault old input (faults.Header at) fault told refuses f))
+only_fault begun given old new start sink (Err faults.HeaderTooLong) input fault reads refuses cause told f calm = (refl, inl (same_fault old input faults.HeaderTooLong fault told refuses f))
+only_fault begun given old new start sink (Err faults.ZeroSize) input fault reads refuses cause told f calm = (refl, inl (same_fault old input faults.ZeroSize fault told refuses f))
+only_fault begun given old new start sink (Err (faults.TooLarge wide high)) input fault reads refuses cause told f calm =
     (refl, inl (same_fault old input (faults.TooLarge wide high) fault told refuses f))
-only_fault begun given old new start sink before now (Err (faults.Truncated at)) input fault reads refuses cause told f calm = (refl, inl (same_fault old input (faults.Truncated at) fault told refuses f))
-only_fault begun given old new start sink before now (Err (faults.Pixel at)) input fault reads refuses cause told f calm = (refl, inl (same_fault old input (faults.Pixel at) fault told refuses f))
-only_fault begun given old new start sink before now (Err (faults.Trailing at)) input fault reads refuses cause told f calm = (refl, inl (same_fault old input (faults.Trailing at) fault told refuses f))
-only_fault begun given old new start sink before now (Err faults.InputTooLong) input fault reads refuses cause told f calm = (refl, inl (same_fault old input faults.InputTooLong fault told refuses f))
+only_fault begun given old new start sink (Err (faults.Truncated at)) input fault reads refuses cause told f calm = (refl, inl (same_fault old input (faults.Truncated at) fault told refuses f))
+only_fault begun given old new start sink (Err (faults.Pixel at)) input fault reads refuses cause told f calm = (refl, inl (same_fault old input (faults.Pixel at) fault told refuses f))
+only_fault begun given old new start sink (Err (faults.Trailing at)) input fault reads refuses cause told f calm = (refl, inl (same_fault old input (faults.Trailing at) fault told refuses f))
+only_fault begun given old new start sink (Err faults.InputTooLong) input fault reads refuses cause told f calm = (refl, inl (same_fault old input faults.InputTooLong fault told refuses f))

@@ -1,10 +1,11 @@
 -- What is wrong with bytes that spell no page. The whole list is judged, by the grammar alone.
 use Rattle.std.specs.Prelude.{◌≡◌, ◌<◌, ◌≤◌, ◌⊎◌, ℕ, ◌+◌, min, List, [], ◌∷◌, ◌++◌, length, codes}
+use Rattle.pbm_reader.specs.declared.limits.TheConstants.{MAX_HEADER, MAX_INPUT, MAX_NUMBER}
 use Rattle.pbm_reader.specs.declared.fault.PageFault.{PageFault}
 use Rattle.pbm_reader.specs.declared.fault.PageFault.TheVariants as faults
 use Rattle.pbm_reader.specs.declared.form.Form.{Form}
 use Rattle.pbm_reader.specs.declared.form.Form.TheVariants.{Plain}
-use Rattle.pbm_reader.specs.Page.{IsPageSize}
+use Rattle.packed_rows.specs.Page.{IsPageSize}
 use Rattle.pbm_reader.specs.Spelling.{IsSomeHeader, HasHeader, IsRaster, MayFollow}
 
 -- the bytes begin with this front
@@ -38,7 +39,7 @@ IsMagicFault input at = ((at ≡ 0) × (Begins (codes "P") input → ⊥)) ⊎ (
 -- a header cannot have the byte at this offset there
 pub record IsHeaderFault (input : List ℕ) (at : ℕ) : Type 0 where
   pub magic : HasMagic input
-  pub low : at < 65536
+  pub low : at < MAX_HEADER
   pub stops : StopsAt IsSomeHeader input at
 
 -- the first 65,536 bytes begin a header, aren't all of it, and a byte follows them
@@ -46,7 +47,7 @@ pub record IsHeaderTooLong (input : List ℕ) : Type 0 where
   pub front : List ℕ
   pub behind : List ℕ
   pub whole : input ≡ front ++ behind
-  pub len : length front ≡ 65536
+  pub len : length front ≡ MAX_HEADER
   pub begins : IsFrontOf IsSomeHeader front
   pub more : 0 < length behind
 
@@ -73,8 +74,8 @@ pub record IsTooLarge (input : List ℕ) (wide high : ℕ) : Type 0 where
   pub some_width : 0 < width
   pub some_height : 0 < height
   pub large : IsPageSize width height → ⊥
-  pub width_told : wide ≡ min width 999999999
-  pub height_told : high ≡ min height 999999999
+  pub width_told : wide ≡ min width MAX_NUMBER
+  pub height_told : high ≡ min height MAX_NUMBER
 
 -- why no page has the sizes that a header told
 abbrev pub IsSizeFault : ℕ → ℕ → PageFault → Type 0
@@ -90,7 +91,7 @@ pub record HasPageHeader (input header behind : List ℕ) (form : Form) (width h
 -- the bytes are from 2 to 65,536, and begin a header
 pub record EndsInHeader (input : List ℕ) : Type 0 where
   pub some : 2 ≤ length input
-  pub short : length input ≤ 65536
+  pub short : length input ≤ MAX_HEADER
   pub begins : IsFrontOf IsSomeHeader input
 
 -- the header is whole, and the bytes behind it begin its raster
@@ -106,7 +107,7 @@ pub record EndsInRaster (input : List ℕ) : Type 0 where
 -- the input ends at this offset, before the header or the raster is whole
 pub record IsTruncated (input : List ℕ) (at : ℕ) : Type 0 where
   pub end : at ≡ length input
-  pub short : at ≤ 268435456
+  pub short : at ≤ MAX_INPUT
   pub part : EndsInHeader input ⊎ EndsInRaster input
 
 -- the raster, which is plain, cannot have the byte at this offset there
@@ -119,7 +120,7 @@ pub record IsPixelFault (input : List ℕ) (at : ℕ) : Type 0 where
   pub place : ℕ
   pub stops : StopsAt (IsRaster Plain width height) behind place
   pub place_is : at ≡ length header + place
-  pub low : at < 268435456
+  pub low : at < MAX_INPUT
 
 -- a header and its raster end at this offset, and here stands a byte that may not follow them
 pub record IsTrailing (input : List ℕ) (at : ℕ) : Type 0 where
@@ -134,7 +135,7 @@ pub record IsTrailing (input : List ℕ) (at : ℕ) : Type 0 where
   pub is_raster : IsRaster form width height raster
   pub refused : MayFollow form (byte ∷ []) → ⊥
   pub place_is : at ≡ length header + length raster
-  pub low : at < 268435456
+  pub low : at < MAX_INPUT
 
 -- the input has this fault, which isn't its length
 abbrev pub HasFaultWithin : List ℕ → PageFault → Type 0
@@ -155,7 +156,7 @@ pub record IsInputTooLong (input : List ℕ) : Type 0 where
   pub front : List ℕ
   pub behind : List ℕ
   pub whole : input ≡ front ++ behind
-  pub len : length front ≡ 268435456
+  pub len : length front ≡ MAX_INPUT
   pub more : 0 < length behind
   pub undecided : (fault : PageFault) → ((rest : List ℕ) → HasFaultWithin (front ++ rest) fault) → ⊥
 

@@ -1,12 +1,18 @@
--- What one more byte makes of a header that is read so far, for the private calls of the header's reader.
-use Rattle.std.specs.Prelude.{ℕ, ◌+◌, ◌-◌, ◌*◌, ◌==◌, min, Option, Some, None, option_map, if◌then◌else◌}
+-- What one more byte makes of a header that is read so far, and what the private calls of the header's reader took.
+use Rattle.std.specs.Prelude.{ℕ, ◌+◌, ◌-◌, ◌*◌, ◌==◌, min, Option, Some, None, option_map, if◌then◌else◌, ◌≡◌, ◌≤◌, List, length}
+use Rattle.layout_outside.specs.Views.{SourceView}
+use Rattle.layout_outside.specs.Taken.{Took}
+use Rattle.pbm_reader.specs.declared.limits.TheConstants.{MAX_HEADER, MAX_NUMBER}
+use Rattle.pbm_reader.specs.declared.header.Header.{Header}
+use Rattle.pbm_reader.specs.declared.header.Told.{Told}
+use Rattle.pbm_reader.specs.Page.{IsPageSize}
 use Rattle.pbm_reader.specs.declared.form.Form.{Form}
 use Rattle.pbm_reader.specs.declared.form.Form.TheVariants.{Plain, Raw}
 use Rattle.pbm_reader.specs.declared.state.HeaderState.{HeaderState}
 use Rattle.pbm_reader.specs.declared.state.HeaderState.TheVariants.{Magic, Kind, Named, WidthGap, WidthComment, Width, HeightGap, HeightComment, Height, Whole}
 use Rattle.pbm_reader.specs.declared.fault.PageFault.{PageFault}
 use Rattle.pbm_reader.specs.declared.fault.PageFault.TheVariants as faults
-use Rattle.pbm_reader.specs.Spelling.{is_white, is_line_end, is_digit}
+use Rattle.pbm_reader.specs.Spelling.{is_white, is_line_end, is_digit, IsHeader}
 
 -- the form that this byte names behind a `P`
 abbrev pub form_of : ℕ → Option Form
@@ -14,7 +20,7 @@ form_of byte = if byte == 49 then Some Plain else if byte == 52 then Some Raw el
 
 -- the number with one more digit behind it; numbers above 999,999,999 aren't told apart
 abbrev pub longer : ℕ → ℕ → ℕ
-longer number digit = min (10 * number + (digit - 48)) 999999999
+longer number digit = min (10 * number + (digit - 48)) MAX_NUMBER
 
 abbrev pub with_digit : ℕ → ℕ → Option ℕ
 with_digit number byte = if is_digit byte then Some (longer number byte) else None
@@ -52,3 +58,24 @@ abbrev pub missing_byte : HeaderState → ℕ → PageFault
 missing_byte Magic at = faults.Magic at
 missing_byte Kind at = faults.Magic at
 missing_byte state at = faults.Truncated at
+
+-- a header was taken, of at most 65,536 bytes; a size above 999,999,999 is told as 999,999,999
+pub record TookSizes (old new : SourceView) (told : Told) : Type 0 where
+  pub bytes : List ℕ
+  pub took : Took old new bytes
+  pub width : ℕ
+  pub height : ℕ
+  pub is_header : IsHeader bytes told.form width height
+  pub width_told : told.width ≡ min width MAX_NUMBER
+  pub height_told : told.height ≡ min height MAX_NUMBER
+  pub len : told.len ≡ length bytes
+  pub short : length bytes ≤ MAX_HEADER
+
+-- a header that a page can have was taken, of at most 65,536 bytes
+pub record TookHeader (old new : SourceView) (header : Header) : Type 0 where
+  pub bytes : List ℕ
+  pub took : Took old new bytes
+  pub is_header : IsHeader bytes header.form header.size.width header.size.height
+  pub size : IsPageSize header.size.width header.size.height
+  pub len : header.len ≡ length bytes
+  pub short : length bytes ≤ MAX_HEADER

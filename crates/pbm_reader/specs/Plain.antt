@@ -1,12 +1,14 @@
 -- Reading the pixels of a plain raster.
 use Rattle.std.specs.Prelude.{◌≡◌, ◌<◌, ◌≤◌, ℕ, ◌+◌, Bool, true, false, not, ◌==◌, List, [], ◌∷◌, ◌++◌, length, slice_index, Option, ⊤, if◌then◌else◌}
+use Rattle.pbm_reader.specs.declared.limits.TheConstants.{MAX_INPUT}
 use Rattle.pbm_reader.specs.declared.fault.PageFault.{PageFault}
 use Rattle.pbm_reader.specs.declared.fault.PageFault.TheVariants as faults
 use Rattle.pbm_reader.specs.declared.plain.PixelStep.{PixelStep}
 use Rattle.pbm_reader.specs.declared.plain.PixelStep.TheVariants.{Blank, Found, Wrong}
-use Rattle.pbm_reader.specs.Page.{pixel, row_len}
+use Rattle.packed_rows.specs.Page.{pixel, row_len}
 use Rattle.pbm_reader.specs.Spelling.{is_white, is_line_end, AreInLine, IsBlank, SpellsPixels}
-use Rattle.pbm_reader.specs.Left.{Took, TookAll}
+use Rattle.layout_outside.specs.Taken.{Took, TookAll}
+use Rattle.layout_outside.specs.Views.{SourceView}
 
 -- what one more byte makes of what stands before a pixel
 abbrev pub pixel_step : Bool → ℕ → PixelStep
@@ -24,12 +26,12 @@ abbrev pub bit_of : Bool → ℕ
 bit_of is_black = if is_black then 1 else 0
 
 -- the characters of these pixels were taken, from one offset to another
-pub record TookPixels (old new : Option (List ℕ)) (start end : ℕ) (pixels : List ℕ) : Type 0 where
+pub record TookPixels (old new : SourceView) (start end : ℕ) (pixels : List ℕ) : Type 0 where
   pub bytes : List ℕ
   pub took : Took old new bytes
   pub spelled : SpellsPixels pixels bytes
   pub end_is : end ≡ start + length bytes
-  pub low : end ≤ 268435456
+  pub low : end ≤ MAX_INPUT
 
 -- the bytes are fewer pixels than this, and a part of what stands before the next
 pub record PixelsBegun (count : ℕ) (in_comment : Bool) (bytes : List ℕ) : Type 0 where
@@ -42,17 +44,17 @@ pub record PixelsBegun (count : ℕ) (in_comment : Bool) (bytes : List ℕ) : Ty
   pub part_is : IsBlankPart in_comment part
 
 -- why fewer pixels than this were read, from this offset on
-abbrev pub PixelsFail : Option (List ℕ) → Option (List ℕ) → ℕ → ℕ → PageFault → Type 0
+abbrev pub PixelsFail : SourceView → SourceView → ℕ → ℕ → PageFault → Type 0
 PixelsFail old new start count (faults.Truncated end) =
-    (in_comment : Bool) × (bytes : List ℕ) × TookAll old new bytes × PixelsBegun count in_comment bytes × (end ≡ start + length bytes) × (end ≤ 268435456)
+    (in_comment : Bool) × (bytes : List ℕ) × TookAll old new bytes × PixelsBegun count in_comment bytes × (end ≡ start + length bytes) × (end ≤ MAX_INPUT)
 PixelsFail old new start count (faults.Pixel at) =
     (bytes : List ℕ) × (byte : ℕ) × Took old new (bytes ++ byte ∷ []) × PixelsBegun count false bytes × (pixel_step false byte ≡ Wrong)
-    × (at ≡ start + length bytes) × (at < 268435456)
+    × (at ≡ start + length bytes) × (at < MAX_INPUT)
 PixelsFail old new start count faults.InputTooLong =
-    (in_comment : Bool) × (bytes : List ℕ) × (byte : ℕ) × Took old new (bytes ++ byte ∷ []) × PixelsBegun count in_comment bytes × (start + length bytes ≡ 268435456)
+    (in_comment : Bool) × (bytes : List ℕ) × (byte : ℕ) × Took old new (bytes ++ byte ∷ []) × PixelsBegun count in_comment bytes × (start + length bytes ≡ MAX_INPUT)
 PixelsFail old new start count faults.ReadFault =
-    (in_comment : Bool) × (bytes : List ℕ) × Took old new bytes × PixelsBegun count in_comment bytes × (start + length bytes ≤ 268435456)
-PixelsFail old new start count faults.Memory = ⊤
+    (in_comment : Bool) × (bytes : List ℕ) × Took old new bytes × PixelsBegun count in_comment bytes × (start + length bytes ≤ MAX_INPUT)
+PixelsFail old new start count faults.Memory = (bytes : List ℕ) × Took old new bytes
 PixelsFail old new start count fault = ⊥
 
 -- the packed bytes have these pixels, and then only white ones
@@ -61,14 +63,14 @@ pub record ArePacked (width : ℕ) (pixels bits : List ℕ) : Type 0 where
   pub pixels_are : (x : ℕ) → pixel bits x ≡ slice_index pixels x
 
 -- a row of pixels was taken, and packed
-pub record TookRow (old new : Option (List ℕ)) (start end width : ℕ) (bits : List ℕ) : Type 0 where
+pub record TookRow (old new : SourceView) (start end width : ℕ) (bits : List ℕ) : Type 0 where
   pub pixels : List ℕ
   pub took : TookPixels old new start end pixels
   pub count : length pixels ≡ width
   pub packed : ArePacked width pixels bits
 
 -- a row of pixels was taken, and the sink was given it
-pub record TakesPixels {Sink : Type 0} (given : Sink → List ℕ → Sink → Type 0) (old new : Option (List ℕ)) (start end width : ℕ) (before after : Sink) : Type 0 where
+pub record TakesPixels {Sink : Type 0} (given : Sink → List ℕ → Sink → Type 0) (old new : SourceView) (start end width : ℕ) (before after : Sink) : Type 0 where
   pub bits : List ℕ
   pub row : TookRow old new start end width bits
   pub gives : given before bits after

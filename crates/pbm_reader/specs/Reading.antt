@@ -9,16 +9,17 @@ use Rattle.pbm_reader.specs.Page.{Page}
 use Rattle.pbm_reader.specs.Spelling.{Spells}
 use Rattle.pbm_reader.specs.Fault.{HasFault, DecidesNothing}
 use Rattle.pbm_reader.specs.Given.{AfterPage}
-use Rattle.pbm_reader.specs.Left.{Took, TookAll}
+use Rattle.layout_outside.specs.Taken.{Took, TookAll}
+use Rattle.layout_outside.specs.Views.{SourceView}
 
 -- the count of faults never falls, and a failed read is answered only where it rose
-pub record HasReadCause {T : Type 0} (before now : ℕ) (result : Result T PageFault) : Type 0 where
-  pub later : before ≤ now
-  pub failed : result ≡ Err ReadFault → Rose before now
+pub record HasReadCause {T : Type 0} (old new : SourceView) (result : Result T PageFault) : Type 0 where
+  pub later : old.faults ≤ new.faults
+  pub failed : result ≡ Err ReadFault → Rose old.faults new.faults
 
--- the input was read to its end, it spells a page of this size, and the sink was given the page
+-- the input was read until the source answered its end, it spells a page of this size, and the sink was given the page
 pub record ReadsPage {Sink : Type 0} (begun : Sink → ℕ → ℕ → Sink → Type 0) (given : Sink → List ℕ → Sink → Type 0)
-    (old new : Option (List ℕ)) (before after : Sink) (size : Size) : Type 0 where
+    (old new : SourceView) (before after : Sink) (size : Size) : Type 0 where
   pub input : List ℕ
   pub page : Page
   pub took : TookAll old new input
@@ -28,10 +29,10 @@ pub record ReadsPage {Sink : Type 0} (begun : Sink → ℕ → ℕ → Sink → 
   pub sink : AfterPage begun given page before after
 
 -- why a page was refused: the input has the fault, or a read failed before the bytes taken decided one
-abbrev pub Refuses : Option (List ℕ) → Option (List ℕ) → PageFault → Type 0
+abbrev pub Refuses : SourceView → SourceView → PageFault → Type 0
 Refuses old new faults.ReadFault = (taken : List ℕ) × Took old new taken × DecidesNothing taken
 Refuses old new faults.Memory = ⊤
-Refuses old new fault = IfSome old (λ input. HasFault input fault)
+Refuses old new fault = IfSome old.left (λ input. HasFault input fault)
 
 -- the answer is this fault, or want of memory
 abbrev pub AnswersFault : {T : Type 0} → PageFault → Result T PageFault → Type 0

@@ -1,38 +1,40 @@
 -- Reading what stands behind a raster.
 use Rattle.std.specs.Prelude.{◌≡◌, ◌<◌, ◌≤◌, ℕ, ◌+◌, List, [], ◌∷◌, ◌++◌, length, Option}
+use Rattle.pbm_reader.specs.declared.limits.TheConstants.{MAX_INPUT}
 use Rattle.pbm_reader.specs.declared.fault.PageFault.{PageFault}
 use Rattle.pbm_reader.specs.declared.fault.PageFault.TheVariants as faults
 use Rattle.pbm_reader.specs.declared.form.Form.{Form}
 use Rattle.pbm_reader.specs.Spelling.{MayFollow}
-use Rattle.pbm_reader.specs.Left.{Took, TookAll}
+use Rattle.layout_outside.specs.Taken.{Took, TookAll}
+use Rattle.layout_outside.specs.Views.{SourceView}
 
 -- all that was left was taken, from this offset on, and it is within the limit
-pub record TookRest (old new : Option (List ℕ)) (start : ℕ) : Type 0 where
+pub record TookRest (old new : SourceView) (start : ℕ) : Type 0 where
   pub bytes : List ℕ
   pub took : TookAll old new bytes
-  pub low : start + length bytes ≤ 268435456
+  pub low : start + length bytes ≤ MAX_INPUT
 
 -- why what was left was not read to its end, from this offset on
-abbrev pub RestFails : Option (List ℕ) → Option (List ℕ) → ℕ → PageFault → Type 0
-RestFails old new start faults.InputTooLong = (bytes : List ℕ) × Took old new bytes × (268435456 < start + length bytes)
-RestFails old new start faults.ReadFault = (bytes : List ℕ) × Took old new bytes × (start + length bytes ≤ 268435456)
+abbrev pub RestFails : SourceView → SourceView → ℕ → PageFault → Type 0
+RestFails old new start faults.InputTooLong = (bytes : List ℕ) × Took old new bytes × (MAX_INPUT < start + length bytes)
+RestFails old new start faults.ReadFault = (bytes : List ℕ) × Took old new bytes × (start + length bytes ≤ MAX_INPUT)
 RestFails old new start fault = ⊥
 
 -- the bytes behind a raster, from this offset on, go past the limit, and none within it is refused
 abbrev pub GoesPast : Form → ℕ → List ℕ → Type 0
-GoesPast form start tail = (front : List ℕ) × (behind : List ℕ) × (tail ≡ front ++ behind) × MayFollow form front × (start + length front ≡ 268435456) × (0 < length behind)
+GoesPast form start tail = (front : List ℕ) × (behind : List ℕ) × (tail ≡ front ++ behind) × MayFollow form front × (start + length front ≡ MAX_INPUT) × (0 < length behind)
 
 -- what may follow a raster was taken, and it was all that was left
-pub record TookTail (old new : Option (List ℕ)) (form : Form) (start : ℕ) : Type 0 where
+pub record TookTail (old new : SourceView) (form : Form) (start : ℕ) : Type 0 where
   pub tail : List ℕ
   pub took : TookAll old new tail
   pub follows : MayFollow form tail
-  pub low : start + length tail ≤ 268435456
+  pub low : start + length tail ≤ MAX_INPUT
 
 -- why what stands behind a raster, from this offset on, was not read to its end
-abbrev pub TailFails : Option (List ℕ) → Option (List ℕ) → Form → ℕ → PageFault → Type 0
+abbrev pub TailFails : SourceView → SourceView → Form → ℕ → PageFault → Type 0
 TailFails old new form start (faults.Trailing at) =
-    (byte : ℕ) × Took old new (byte ∷ []) × (MayFollow form (byte ∷ []) → ⊥) × (at ≡ start) × (at < 268435456)
+    (byte : ℕ) × Took old new (byte ∷ []) × (MayFollow form (byte ∷ []) → ⊥) × (at ≡ start) × (at < MAX_INPUT)
 TailFails old new form start faults.InputTooLong = (tail : List ℕ) × Took old new tail × GoesPast form start tail
-TailFails old new form start faults.ReadFault = (tail : List ℕ) × Took old new tail × MayFollow form tail × (start + length tail ≤ 268435456)
+TailFails old new form start faults.ReadFault = (tail : List ℕ) × Took old new tail × MayFollow form tail × (start + length tail ≤ MAX_INPUT)
 TailFails old new form start fault = ⊥

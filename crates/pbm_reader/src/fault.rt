@@ -2,8 +2,8 @@
 ghost use Rattle.std.specs.Prelude.{◌≡◌};
 ghost use Rattle.pbm_reader.specs.declared.fault.PageFault.TheVariants.{ReadFault, Memory};
 
+use layout_limits::OutOfMemory;
 use layout_outside::Failed;
-use std::alloc::AllocError;
 
 /// The size of a page in pixels.
 #[derive(Debug, Clone, Copy, PartialEq, Eq, Drop)]
@@ -52,10 +52,10 @@ impl From<Failed> for PageFault {
     }
 }
 
-impl From<AllocError> for PageFault {
+impl From<OutOfMemory> for PageFault {
     ghost from_gives = { λ _ fault. fault ≡ Memory };
 
-    fn from(_: AllocError) -> PageFault {
+    fn from(_: OutOfMemory) -> PageFault {
         PageFault::Memory
     }
 }

@@ -2,24 +2,16 @@
 ghost use Rattle.std.specs.Prelude.{◌≡◌, ◌≤◌, ◌<◌, ◌^◌, List, [], ℕ, IfOk, IfErr};
 ghost use Rattle.pbm_reader.specs.Page.{IsPageSize};
 ghost use Rattle.pbm_reader.specs.Reading.{HasReadCause, Refuses};
-ghost use Rattle.pbm_reader.specs.Left.{left_of, Took, TookHeader, TookSizes};
+ghost use Rattle.pbm_reader.specs.Header.{wrong_byte, missing_byte, TookHeader, TookSizes};
 ghost use Rattle.pbm_reader.specs.Fault.{IsSizeFault};
-ghost use Rattle.pbm_reader.specs.Header.{wrong_byte, missing_byte};
 
 use crate::fault::{PageFault, Size};
-use crate::feed::{Feed, next_byte};
+use crate::feed::Feed;
 use crate::form::Form;
+use crate::limits::MAX_HEADER;
 use crate::state::{HeaderState, next_state};
+use layout_limits::{MAX_PIXELS, MAX_SIDE};
 use layout_outside::Source;
-
-/// The greatest width, and the greatest height.
-const MAX_SIDE: u32 = 8192;
-
-/// The greatest number of pixels.
-const MAX_PIXELS: u32 = 33_554_432;
-
-/// How many bytes a header may have.
-const MAX_HEADER: u64 = 65_536;
 
 /// A header that a page can have, and how many bytes it takes.
 #[derive(Debug, Clone, Copy, PartialEq, Eq, Drop)]
@@ -59,15 +51,16 @@ fn missing_byte(state: HeaderState, at: u64) -> PageFault
 }
 
 /// Reads a header to its last byte, whatever sizes it says.
-fn read_told<S: Source>(src: &mut S, feed: &mut Feed) -> Result<Told, PageFault>
-    ensures told { IfOk result (TookSizes (left_of (S.view src.old).left feed.old) (left_of (S.view src.new).left feed.new)) }
-    ensures fault { IfErr result (Refuses (left_of (S.view src.old).left feed.old) (left_of (S.view src.new).left feed.new)) }
-    ensures drained { result ≡ Err PageFault.ReadFault → feed.new ≡ [] }
-    ensures cause { HasReadCause (S.view src.old).faults (S.view src.new).faults result }
+fn read_told<S: Source>(feed: &mut Feed<'_, S>) -> Result<Told, PageFault>
+    ensures told { IfOk result (TookSizes feed.old.source feed.new.source) }
+    ensures fault { IfErr result (Refuses feed.old.source feed.new.source) }
+    ensures drained { result ≡ Err PageFault.ReadFault → feed.new.unread ≡ [] }
+    ensures same { feed.new.borrow ≡ feed.old.borrow }
+    ensures cause { HasReadCause feed.old.source feed.new.source result }
 {
     let mut state = HeaderState::Magic;
     for at in 0..MAX_HEADER {
-        let Some(byte) = next_byte(src, feed)? else {
+        let Some(byte) = feed.next_byte()? else {
             return Err(missing_byte(state, at));
         };
         let Some(next) = next_state(state, byte) else {
@@ -83,7 +76,7 @@ fn read_told<S: Source>(src: &mut S, feed: &mut Feed) -> Result<Told, PageFault>
         }
         state = next;
     }
-    match next_byte(src, feed)? {
+    match feed.next_byte()? {
         Some(_) => Err(PageFault::HeaderTooLong),
         None => Err(PageFault::Truncated { at: MAX_HEADER }),
     }
@@ -97,7 +90,7 @@ fn page_size(width: u32, height: u32) -> Result<Size, PageFault>
     if width == 0 || height == 0 {
         return Err(PageFault::ZeroSize);
     }
-    if width > MAX_SIDE || height > MAX_SIDE || width * height > MAX_PIXELS {
+    if width > u32::from(MAX_SIDE) || height > u32::from(MAX_SIDE) || width * height > MAX_PIXELS {
         return Err(PageFault::TooLarge { width, height });
     }
     Ok(Size {
@@ -107,13 +100,14 @@ fn page_size(width: u32, height: u32) -> Result<Size, PageFault>
 }
 
 /// Reads a header, with sizes that a page can have.
-pub(crate) fn read_header<S: Source>(src: &mut S, feed: &mut Feed) -> Result<Header, PageFault>
-    ensures header { IfOk result (TookHeader (left_of (S.view src.old).left feed.old) (left_of (S.view src.new).left feed.new)) }
-    ensures fault { IfErr result (Refuses (left_of (S.view src.old).left feed.old) (left_of (S.view src.new).left feed.new)) }
-    ensures drained { result ≡ Err PageFault.ReadFault → feed.new ≡ [] }
-    ensures cause { HasReadCause (S.view src.old).faults (S.view src.new).faults result }
+pub(crate) fn read_header<S: Source>(feed: &mut Feed<'_, S>) -> Result<Header, PageFault>
+    ensures header { IfOk result (TookHeader feed.old.source feed.new.source) }
+    ensures fault { IfErr result (Refuses feed.old.source feed.new.source) }
+    ensures drained { result ≡ Err PageFault.ReadFault → feed.new.unread ≡ [] }
+    ensures same { feed.new.borrow ≡ feed.old.borrow }
+    ensures cause { HasReadCause feed.old.source feed.new.source result }
 {
-    let told = read_told(src, feed)?;
+    let told = read_told(feed)?;
     let size = page_size(told.width, told.height)?;
     Ok(Header {
         form: told.form,

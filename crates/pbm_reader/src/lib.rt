@@ -6,6 +6,7 @@ mod feed;
 mod form;
 mod header;
 mod law;
+mod limits;
 mod page;
 mod plain;
 mod raster;
@@ -16,6 +17,7 @@ mod tail;
 mod tests;
 
 pub use fault::{PageFault, Size};
-pub use law::each_input_is_judged;
+pub use law::{each_input_is_judged, equal_pictures_are_one_page};
+pub use limits::{MAX_HEADER, MAX_INPUT, MAX_NUMBER, MAX_PIECE};
 pub use page::read_page;
-pub use row_sink::{OutOfMemory, RowSink};
+pub use row_sink::RowSink;

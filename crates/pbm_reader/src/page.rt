@@ -7,13 +7,13 @@ ghost use Rattle.pbm_reader.specs.Raster.{GivenTopRows, RasterFails, TookRaster}
 ghost use Rattle.pbm_reader.specs.Spelling.{IsPage};
 ghost use Rattle.pbm_reader.specs.Fault.{HasFault};
 ghost use Rattle.pbm_reader.specs.Given.{AfterFault};
-ghost use Rattle.pbm_reader.specs.Left.{left_of};
 ghost use Rattle.pbm_reader.specs.Reading.{AnswersFault, HasReadCause, ReadsPage, Refuses};
 
 use crate::fault::{PageFault, Size};
-use crate::feed::Feed;
+use crate::feed::{Feed, Piece};
 use crate::form::Form;
 use crate::header::{Header, read_header};
+use crate::limits::MAX_HEADER;
 use crate::plain::read_plain_raster;
 use crate::raster::read_raw_raster;
 use crate::row_sink::RowSink;
@@ -25,19 +25,19 @@ use std::alloc::Global;
 /// rows to the sink from the top. Memory is taken for one piece of the input and one row.
 ///
 /// `begin` is called once, when the header is whole, and `row` once for each row. Where the page is
-/// refused the sink was given nothing, or top rows that are whole in the input.
+/// refused the sink was given nothing, or top rows that the bytes before the fault spell whole.
 pub fn read_page<S: Source, R: RowSink>(
     alloc: Global,
     src: &mut S,
     rows: &mut R,
 ) -> Result<Size, PageFault>
     // The input was read to its end, it spells a page, and the sink was given the page.
-    ensures page { IfOk result (ReadsPage R.begun R.given (S.view src.old).left (S.view src.new).left rows.old rows.new) }
+    ensures page { IfOk result (ReadsPage R.begun R.given (S.view src.old) (S.view src.new) rows.old rows.new) }
     // The input has just this fault; or a read failed, and the bytes taken decide no fault.
-    ensures fault { IfErr result (Refuses (S.view src.old).left (S.view src.new).left) }
-    // After a fault the sink was given nothing, or top rows of the page that the input begins.
-    ensures top { OnErr result (AfterFault R.begun R.given R.unchanged (S.view src.old).left rows.old rows.new) }
-    ensures cause { HasReadCause (S.view src.old).faults (S.view src.new).faults result }
+    ensures fault { IfErr result (Refuses (S.view src.old) (S.view src.new)) }
+    // After a fault the sink was given nothing, or top rows that the bytes before the fault spell whole.
+    ensures top { IfErr result (AfterFault R.begun R.given R.unchanged (S.view src.old) (S.view src.new) rows.old rows.new) }
+    ensures cause { HasReadCause (S.view src.old) (S.view src.new) result }
     // Where the input spells a page and no read failed, the page is read unless memory is refused.
     ensures complete { (input : List ℕ) → (S.view src.old).left ≡ Some input → IsPage input
         → ¬ Rose (S.view src.old).faults (S.view src.new).faults → IsOkUnless result PageFault.Memory }
@@ -45,28 +45,31 @@ pub fn read_page<S: Source, R: RowSink>(
     ensures faulty { (input : List ℕ) (fault : PageFault) → (S.view src.old).left ≡ Some input → HasFault input fault
         → ¬ Rose (S.view src.old).faults (S.view src.new).faults → AnswersFault fault result }
 {
-    let mut feed = Feed::new(alloc)?;
-    read_from(alloc, src, &mut feed, rows)
+    let mut feed = Feed::new(src, Piece::new(alloc)?);
+    let result = read_from(alloc, &mut feed, rows);
+    feed.into_source();
+    result
 }
 
 /// Reads a page out of a feed.
 fn read_from<S: Source, R: RowSink>(
     alloc: Global,
-    src: &mut S,
-    feed: &mut Feed,
+    feed: &mut Feed<'_, S>,
     rows: &mut R,
 ) -> Result<Size, PageFault>
-    ensures page { IfOk result (ReadsPage R.begun R.given (left_of (S.view src.old).left feed.old)
-        (left_of (S.view src.new).left feed.new) rows.old rows.new) }
-    ensures fault { IfErr result (Refuses (left_of (S.view src.old).left feed.old) (left_of (S.view src.new).left feed.new)) }
-    ensures top { OnErr result (AfterFault R.begun R.given R.unchanged (left_of (S.view src.old).left feed.old) rows.old rows.new) }
-    ensures drained { result ≡ Err PageFault.ReadFault → feed.new ≡ [] }
-    ensures cause { HasReadCause (S.view src.old).faults (S.view src.new).faults result }
+    ensures page { IfOk result (ReadsPage R.begun R.given feed.old.source
+        feed.new.source rows.old rows.new) }
+    ensures fault { IfErr result (Refuses feed.old.source feed.new.source) }
+    ensures top { IfErr result (AfterFault R.begun R.given R.unchanged feed.old.source
+        feed.new.source rows.old rows.new) }
+    ensures drained { result ≡ Err PageFault.ReadFault → feed.new.unread ≡ [] }
+    ensures same { feed.new.borrow ≡ feed.old.borrow }
+    ensures cause { HasReadCause feed.old.source feed.new.source result }
 {
-    let header = read_header(src, feed)?;
+    let header = read_header(feed)?;
     rows.begin(header.size.width, header.size.height)?;
-    let end = read_raster(alloc, src, feed, header, rows)?;
-    read_tail(src, feed, header.form, end)?;
+    let end = read_raster(alloc, feed, header, rows)?;
+    read_tail(feed, header.form, end)?;
     Ok(header.size)
 }
 
@@ -74,26 +77,26 @@ fn read_from<S: Source, R: RowSink>(
 /// the offset of their end.
 fn read_raster<S: Source, R: RowSink>(
     alloc: Global,
-    src: &mut S,
-    feed: &mut Feed,
+    feed: &mut Feed<'_, S>,
     header: Header,
     rows: &mut R,
 ) -> Result<u64, PageFault>
-    requires short { header.len ≤ 65536 }
+    requires short { header.len ≤ MAX_HEADER }
     requires size { IsPageSize header.size.width header.size.height }
     requires width { R.width_of rows.old ≡ header.size.width }
     requires rows { R.rows_left rows.old ≡ header.size.height }
-    ensures ok { IfOk result (λ end. TookRaster R.given (left_of (S.view src.old).left feed.old)
-        (left_of (S.view src.new).left feed.new) header.form header.size.width header.size.height header.len end rows.old rows.new) }
-    ensures fault { IfErr result (RasterFails (left_of (S.view src.old).left feed.old)
-        (left_of (S.view src.new).left feed.new) header.form header.size.width header.size.height header.len) }
-    ensures top { OnErr result (GivenTopRows R.given R.unchanged header.form header.size.width header.size.height
-        (left_of (S.view src.old).left feed.old) rows.old rows.new) }
-    ensures drained { result ≡ Err PageFault.ReadFault → feed.new ≡ [] }
-    ensures cause { HasReadCause (S.view src.old).faults (S.view src.new).faults result }
+    ensures ok { IfOk result (λ end. TookRaster R.given feed.old.source
+        feed.new.source header.form header.size.width header.size.height header.len end rows.old rows.new) }
+    ensures fault { IfErr result (RasterFails feed.old.source
+        feed.new.source header.form header.size.width header.size.height header.len) }
+    ensures top { IfErr result (GivenTopRows R.given R.unchanged header.form header.size.width header.size.height header.len
+        feed.old.source feed.new.source rows.old rows.new) }
+    ensures drained { result ≡ Err PageFault.ReadFault → feed.new.unread ≡ [] }
+    ensures same { feed.new.borrow ≡ feed.old.borrow }
+    ensures cause { HasReadCause feed.old.source feed.new.source result }
 {
     match header.form {
-        Form::Plain => read_plain_raster(alloc, src, feed, header, rows),
-        Form::Raw => read_raw_raster(alloc, src, feed, header, rows),
+        Form::Plain => read_plain_raster(alloc, feed, header, rows),
+        Form::Raw => read_raw_raster(alloc, feed, header, rows),
     }
 }

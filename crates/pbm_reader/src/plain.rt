@@ -3,22 +3,19 @@ ghost use Rattle.std.specs.Prelude.{◌≡◌, ◌≤◌, ◌<◌, ◌+◌, ◌/
 ghost use Rattle.pbm_reader.specs.Page.{IsPageSize, pixel, row_len};
 ghost use Rattle.pbm_reader.specs.declared.form.Form.TheVariants.{Plain};
 ghost use Rattle.pbm_reader.specs.Reading.{HasReadCause};
-ghost use Rattle.pbm_reader.specs.Left.{left_of};
 ghost use Rattle.pbm_reader.specs.Given.{Stays};
 ghost use Rattle.pbm_reader.specs.Plain.{pixel_step, bit_of, PixelsFail, TakesPixels, TookPixels, TookRow};
 ghost use Rattle.pbm_reader.specs.Raster.{GivenTopRows, RasterFails, TookRaster};
 
 use crate::fault::PageFault;
-use crate::feed::{Feed, next_byte};
+use crate::feed::Feed;
 use crate::form::{is_line_end, is_white};
 use crate::header::Header;
-use crate::raster::row_len;
+use crate::limits::{MAX_HEADER, MAX_INPUT};
 use crate::row_sink::RowSink;
 use layout_outside::Source;
+use packed_rows::{row_len, set_pixel, whiten};
 use std::alloc::Global;
-
-/// How many bytes an input may have.
-pub(crate) const MAX_INPUT: u64 = 268_435_456;
 
 /// A pixel, and the offset behind its character.
 #[derive(Debug, Clone, Copy, PartialEq, Eq, Drop)]
@@ -55,17 +52,18 @@ fn pixel_step(in_comment: bool, byte: u8) -> PixelStep
 }
 
 /// Reads the next pixel, before which white bytes and comments may stand, from this offset on.
-fn next_pixel<S: Source>(src: &mut S, feed: &mut Feed, start: u64) -> Result<Pixel, PageFault>
-    requires low { start ≤ 268435456 }
-    ensures pixel { IfOk result (λ pixel. TookPixels (left_of (S.view src.old).left feed.old)
-        (left_of (S.view src.new).left feed.new) start pixel.end (bit_of pixel.is_black ∷ [])) }
-    ensures fault { IfErr result (PixelsFail (left_of (S.view src.old).left feed.old) (left_of (S.view src.new).left feed.new) start 1) }
-    ensures drained { result ≡ Err PageFault.ReadFault → feed.new ≡ [] }
-    ensures cause { HasReadCause (S.view src.old).faults (S.view src.new).faults result }
+fn next_pixel<S: Source>(feed: &mut Feed<'_, S>, start: u64) -> Result<Pixel, PageFault>
+    requires low { start ≤ MAX_INPUT }
+    ensures pixel { IfOk result (λ pixel. TookPixels feed.old.source
+        feed.new.source start pixel.end (bit_of pixel.is_black ∷ [])) }
+    ensures fault { IfErr result (PixelsFail feed.old.source feed.new.source start 1) }
+    ensures drained { result ≡ Err PageFault.ReadFault → feed.new.unread ≡ [] }
+    ensures same { feed.new.borrow ≡ feed.old.borrow }
+    ensures cause { HasReadCause feed.old.source feed.new.source result }
 {
     let mut in_comment = false;
     for at in start..MAX_INPUT {
-        let Some(byte) = next_byte(src, feed)? else {
+        let Some(byte) = feed.next_byte()? else {
             return Err(PageFault::Truncated { at });
         };
         match pixel_step(in_comment, byte) {
@@ -79,7 +77,7 @@ fn next_pixel<S: Source>(src: &mut S, feed: &mut Feed, start: u64) -> Result<Pix
             PixelStep::Wrong => return Err(PageFault::Pixel { at }),
         }
     }
-    match next_byte(src, feed)? {
+    match feed.next_byte()? {
         Some(_) => Err(PageFault::InputTooLong),
         None => Err(PageFault::Truncated { at: MAX_INPUT }),
     }
@@ -93,33 +91,33 @@ fn put_pixel(row: &mut [u8], x: u16, is_black: bool)
     ensures pixels { (k : ℕ) → pixel row.new k ≡ (if k == x then bit_of is_black else pixel row.old k) }
 {
     if is_black {
-        row[usize::from(x / 8)] |= 1 << (7 - x % 8);
+        set_pixel(row, x);
     }
 }
 
 /// Reads the pixels of a row, which begin at this offset, packs them, and answers the offset of
 /// their end.
 fn fill_pixels<S: Source>(
-    src: &mut S,
-    feed: &mut Feed,
+    feed: &mut Feed<'_, S>,
     row: &mut [u8],
     width: u16,
     start: u64,
 ) -> Result<u64, PageFault>
-    requires low { start ≤ 268435456 }
+    requires low { start ≤ MAX_INPUT }
     requires len { length row.old ≡ row_len width }
-    ensures ok { IfOk result (λ end. TookRow (left_of (S.view src.old).left feed.old)
-        (left_of (S.view src.new).left feed.new) start end width row.new) }
-    ensures fault { IfErr result (PixelsFail (left_of (S.view src.old).left feed.old)
-        (left_of (S.view src.new).left feed.new) start width) }
+    ensures ok { IfOk result (λ end. TookRow feed.old.source
+        feed.new.source start end width row.new) }
+    ensures fault { IfErr result (PixelsFail feed.old.source
+        feed.new.source start width) }
     ensures len { length row.new ≡ length row.old }
-    ensures drained { result ≡ Err PageFault.ReadFault → feed.new ≡ [] }
-    ensures cause { HasReadCause (S.view src.old).faults (S.view src.new).faults result }
+    ensures drained { result ≡ Err PageFault.ReadFault → feed.new.unread ≡ [] }
+    ensures same { feed.new.borrow ≡ feed.old.borrow }
+    ensures cause { HasReadCause feed.old.source feed.new.source result }
 {
-    row.fill(0);
+    whiten(row);
     let mut at = start;
     for x in 0..width {
-        let pixel = next_pixel(src, feed, at)?;
+        let pixel = next_pixel(feed, at)?;
         put_pixel(row, x, pixel.is_black);
         at = pixel.end;
     }
@@ -129,29 +127,29 @@ fn fill_pixels<S: Source>(
 /// Reads a row of pixels, which begin at this offset, gives it to the sink, and answers the offset of
 /// its end.
 fn read_pixels<S: Source, R: RowSink>(
-    src: &mut S,
-    feed: &mut Feed,
+    feed: &mut Feed<'_, S>,
     row: &mut [u8],
     width: u16,
     start: u64,
     rows: &mut R,
 ) -> Result<u64, PageFault>
-    requires low { start ≤ 268435456 }
+    requires low { start ≤ MAX_INPUT }
     requires len { length row.old ≡ row_len width }
     requires width { R.width_of rows.old ≡ width }
     requires more { 0 < R.rows_left rows.old }
-    ensures ok { IfOk result (λ end. TakesPixels R.given (left_of (S.view src.old).left feed.old)
-        (left_of (S.view src.new).left feed.new) start end width rows.old rows.new) }
+    ensures ok { IfOk result (λ end. TakesPixels R.given feed.old.source
+        feed.new.source start end width rows.old rows.new) }
     ensures len { length row.new ≡ length row.old }
     ensures width { OnOk result (R.width_of rows.new ≡ width) }
     ensures rows { OnOk result (R.rows_left rows.new + 1 ≡ R.rows_left rows.old) }
-    ensures fault { IfErr result (PixelsFail (left_of (S.view src.old).left feed.old)
-        (left_of (S.view src.new).left feed.new) start width) }
+    ensures fault { IfErr result (PixelsFail feed.old.source
+        feed.new.source start width) }
     ensures stays { OnErr result (Stays R.unchanged rows.old rows.new) }
-    ensures drained { result ≡ Err PageFault.ReadFault → feed.new ≡ [] }
-    ensures cause { HasReadCause (S.view src.old).faults (S.view src.new).faults result }
+    ensures drained { result ≡ Err PageFault.ReadFault → feed.new.unread ≡ [] }
+    ensures same { feed.new.borrow ≡ feed.old.borrow }
+    ensures cause { HasReadCause feed.old.source feed.new.source result }
 {
-    let end = fill_pixels(src, feed, row, width, start)?;
+    let end = fill_pixels(feed, row, width, start)?;
     rows.row(row)?;
     Ok(end)
 }
@@ -159,29 +157,29 @@ fn read_pixels<S: Source, R: RowSink>(
 /// Reads the rows of a plain raster, gives each to the sink, and answers the offset of their end.
 pub(crate) fn read_plain_raster<S: Source, R: RowSink>(
     alloc: Global,
-    src: &mut S,
-    feed: &mut Feed,
+    feed: &mut Feed<'_, S>,
     header: Header,
     rows: &mut R,
 ) -> Result<u64, PageFault>
-    requires short { header.len ≤ 65536 }
+    requires short { header.len ≤ MAX_HEADER }
     requires size { IsPageSize header.size.width header.size.height }
     requires width { R.width_of rows.old ≡ header.size.width }
     requires rows { R.rows_left rows.old ≡ header.size.height }
-    ensures ok { IfOk result (λ end. TookRaster R.given (left_of (S.view src.old).left feed.old)
-        (left_of (S.view src.new).left feed.new) Plain header.size.width header.size.height header.len end rows.old rows.new) }
-    ensures fault { IfErr result (RasterFails (left_of (S.view src.old).left feed.old)
-        (left_of (S.view src.new).left feed.new) Plain header.size.width header.size.height header.len) }
-    ensures top { OnErr result (GivenTopRows R.given R.unchanged Plain header.size.width header.size.height
-        (left_of (S.view src.old).left feed.old) rows.old rows.new) }
-    ensures drained { result ≡ Err PageFault.ReadFault → feed.new ≡ [] }
-    ensures cause { HasReadCause (S.view src.old).faults (S.view src.new).faults result }
+    ensures ok { IfOk result (λ end. TookRaster R.given feed.old.source
+        feed.new.source Plain header.size.width header.size.height header.len end rows.old rows.new) }
+    ensures fault { IfErr result (RasterFails feed.old.source
+        feed.new.source Plain header.size.width header.size.height header.len) }
+    ensures top { IfErr result (GivenTopRows R.given R.unchanged Plain header.size.width header.size.height header.len
+        feed.old.source feed.new.source rows.old rows.new) }
+    ensures drained { result ≡ Err PageFault.ReadFault → feed.new.unread ≡ [] }
+    ensures same { feed.new.borrow ≡ feed.old.borrow }
+    ensures cause { HasReadCause feed.old.source feed.new.source result }
 {
     let len = row_len(header.size.width);
     let mut row = vec![in alloc; 0; len]?;
     let mut at = header.len;
     for _y in 0..header.size.height {
-        at = read_pixels(src, feed, &mut row, header.size.width, at, rows)?;
+        at = read_pixels(feed, &mut row, header.size.width, at, rows)?;
     }
     Ok(at)
 }

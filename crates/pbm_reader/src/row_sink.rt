@@ -1,8 +1,8 @@
 //! Where the rows of a page go.
 ghost use Rattle.std.specs.Prelude.{◌≡◌, ◌<◌, ◌+◌, ℕ, List, OnOk, OnErr};
-ghost use Rattle.pbm_reader.specs.Page.{IsPackedRow, IsPageSize};
+ghost use Rattle.packed_rows.specs.Page.{IsPackedRow, IsPageSize};
 
-pub use std::alloc::AllocError as OutOfMemory;
+use layout_limits::OutOfMemory;
 
 /// Takes the rows of a page, from the top. The one refusal of both calls is want of memory, and a
 /// refused call leaves the sink as it was.

@@ -2,26 +2,26 @@
 ghost use Rattle.std.specs.Prelude.{◌≡◌, ◌≤◌, ◌↔◌, [], ◌∷◌, IsTrue, IfErr, OnOk};
 ghost use Rattle.pbm_reader.specs.Spelling.{MayFollow};
 ghost use Rattle.pbm_reader.specs.Reading.{HasReadCause};
-ghost use Rattle.pbm_reader.specs.Left.{left_of};
 ghost use Rattle.pbm_reader.specs.Tail.{RestFails, TailFails, TookRest, TookTail};
 
 use crate::fault::PageFault;
-use crate::feed::{Feed, drop_bytes, next_byte};
+use crate::feed::Feed;
 use crate::form::{Form, is_white};
-use crate::plain::MAX_INPUT;
+use crate::limits::MAX_INPUT;
 use layout_outside::Source;
 
 /// Reads the rest of an input, from this offset on, to its end, and drops it.
-fn skip_rest<S: Source>(src: &mut S, feed: &mut Feed, start: u64) -> Result<(), PageFault>
-    requires low { start ≤ 268435456 }
-    ensures ok { OnOk result (TookRest (left_of (S.view src.old).left feed.old) (left_of (S.view src.new).left feed.new) start) }
-    ensures fault { IfErr result (RestFails (left_of (S.view src.old).left feed.old) (left_of (S.view src.new).left feed.new) start) }
-    ensures drained { result ≡ Err PageFault.ReadFault → feed.new ≡ [] }
-    ensures cause { HasReadCause (S.view src.old).faults (S.view src.new).faults result }
+fn skip_rest<S: Source>(feed: &mut Feed<'_, S>, start: u64) -> Result<(), PageFault>
+    requires low { start ≤ MAX_INPUT }
+    ensures ok { OnOk result (TookRest feed.old.source feed.new.source start) }
+    ensures fault { IfErr result (RestFails feed.old.source feed.new.source start) }
+    ensures drained { result ≡ Err PageFault.ReadFault → feed.new.unread ≡ [] }
+    ensures same { feed.new.borrow ≡ feed.old.borrow }
+    ensures cause { HasReadCause feed.old.source feed.new.source result }
 {
     let mut left = MAX_INPUT - start;
     loop {
-        let count = drop_bytes(src, feed)? as u64;
+        let count = feed.drop_bytes()? as u64;
         if count == 0 {
             return Ok(());
         }
@@ -44,18 +44,18 @@ fn may_follow(form: Form, byte: u8) -> bool
 
 /// Reads what stands behind a raster, which ends at this offset, to the end of the input.
 pub(crate) fn read_tail<S: Source>(
-    src: &mut S,
-    feed: &mut Feed,
+    feed: &mut Feed<'_, S>,
     form: Form,
     start: u64,
 ) -> Result<(), PageFault>
-    requires low { start ≤ 268435456 }
-    ensures ok { OnOk result (TookTail (left_of (S.view src.old).left feed.old) (left_of (S.view src.new).left feed.new) form start) }
-    ensures fault { IfErr result (TailFails (left_of (S.view src.old).left feed.old) (left_of (S.view src.new).left feed.new) form start) }
-    ensures drained { result ≡ Err PageFault.ReadFault → feed.new ≡ [] }
-    ensures cause { HasReadCause (S.view src.old).faults (S.view src.new).faults result }
+    requires low { start ≤ MAX_INPUT }
+    ensures ok { OnOk result (TookTail feed.old.source feed.new.source form start) }
+    ensures fault { IfErr result (TailFails feed.old.source feed.new.source form start) }
+    ensures drained { result ≡ Err PageFault.ReadFault → feed.new.unread ≡ [] }
+    ensures same { feed.new.borrow ≡ feed.old.borrow }
+    ensures cause { HasReadCause feed.old.source feed.new.source result }
 {
-    let Some(byte) = next_byte(src, feed)? else {
+    let Some(byte) = feed.next_byte()? else {
         return Ok(());
     };
     if start == MAX_INPUT {
@@ -64,5 +64,5 @@ pub(crate) fn read_tail<S: Source>(
     if !may_follow(form, byte) {
         return Err(PageFault::Trailing { at: start });
     }
-    skip_rest(src, feed, start + 1)
+    skip_rest(feed, start + 1)
 }

@@ -4,11 +4,12 @@ ghost use Rattle.std.specs.Prelude.{◌≡◌, ◌-◌, ◌<◌, ◌≤◌};
 mod judge;
 mod spaces;
 
-use crate::{OutOfMemory, PageFault, RowSink, Size, each_input_is_judged, read_page};
+use crate::{PageFault, RowSink, Size, each_input_is_judged, equal_pictures_are_one_page, read_page};
 use judge::judged;
+use layout_limits::OutOfMemory;
 use layout_outside::MemSource;
 use spaces::Spaces;
-use std::alloc::{AllocError, Global};
+use std::alloc::Global;
 use std::test::Fail;
 
 // Keeps the bytes of the rows, and refuses the row of this number.
@@ -55,7 +56,7 @@ impl RowSink for Rows {
 
     fn row(&mut self, bits: &[u8]) -> Result<(), OutOfMemory> {
         if self.given == self.refuses {
-            return Err(AllocError);
+            return Err(OutOfMemory);
         }
         self.bytes.extend_from_slice(bits)?;
         self.given = self.given.saturating_add(1);
@@ -391,6 +392,7 @@ fn every_prefix_and_every_changed_byte_is_judged_as_the_plain_program_does(
 }
 
 #[test]
-fn the_law_can_be_called() {
+fn the_laws_can_be_called() {
     each_input_is_judged();
+    equal_pictures_are_one_page();
 }

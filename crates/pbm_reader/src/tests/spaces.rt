@@ -1,5 +1,6 @@
 //! A source of the tests that makes its bytes up, for inputs too long to be kept.
-ghost use Rattle.std.specs.Prelude.{◌≡◌, ℕ, List, Option, None};
+ghost use Rattle.std.specs.Prelude.{◌≡◌, false};
+ghost use Rattle.layout_outside.specs.Views.{untold_source};
 
 use layout_outside::{Failed, Source};
 
@@ -18,11 +19,7 @@ impl Spaces {
 }
 
 impl Source for Spaces {
-    ghost use Rattle.std.specs.Prelude.{ℕ, List, Option, None};
-
-    ghost left = { λ _. None };
-
-    ghost faults = { λ _. 0 };
+    ghost view = { λ _. untold_source 0 false };
 
     fn read(&mut self, buf: &mut [u8]) -> Result<usize, Failed> {
         let count = (self.len.saturating_sub(self.at)).min(buf.len() as u64) as usize;

@@ -1,11 +1,12 @@
-use Rattle.std.proofs.Common.{◌≡◌, ℕ, ◌≤◌, List, [], ◌∷◌, Option, Some, None, sym, ◌∙◌, ap, subst, arith}
+use Rattle.std.proofs.Common.{◌≡◌, ℕ, ◌≤◌, List, [], ◌∷◌, Option, Some, None, sym, ◌∙◌, ap, subst, arith, refl}
 use Rattle.std.specs.Prelude.{IfSome, IfNone}
 use Rattle.std.proofs.lemmas.Result.{err_from_is_err_and}
 use Rattle.pbm_reader.specs.declared.fault.PageFault.{PageFault}
 use Rattle.pbm_reader.specs.declared.fault.PageFault.TheVariants.{ReadFault}
 use Rattle.pbm_reader.specs.declared.state.HeaderState.{HeaderState}
 use Rattle.pbm_reader.specs.declared.state.HeaderState.TheVariants.{Whole}
-use Rattle.pbm_reader.specs.Left.{left_of, Took, TookAll}
+use Rattle.layout_outside.specs.Views.{SourceView}
+use Rattle.layout_outside.specs.Taken.{Took, TookAll}
 use Rattle.pbm_reader.specs.Header.{next_state}
 use Rattle.pbm_reader.specs.Reading.{Refuses}
 use Rattle.pbm_reader.proofs.HeaderLoop.{IsReading, not_whole, reading_on, reading_whole, reading_undecided, wrong_fails, end_fails, limit_end, limit_more}
@@ -20,25 +21,25 @@ none_of o P e h = let Q : Option ℕ → Type 0 = λ k. IfNone k P in subst Q e 
 pub returns-in_err-byte-clause-fault : goal.returns-in_err-byte-clause-fault
 returns-in_err-byte-clause-fault g c =
     let p = err_from_is_err_and c.from_residual.result c.from_residual.ensures.1 in
-    let old = left_of (g.S.Source.view c.args.src.now).left c.args.feed.now in
-    let middle = left_of (g.S.Source.view c.loop-at.src).left c.loop-at.feed in
-    let P : Option (List ℕ) → Type 0 = λ k. Refuses old k ReadFault in
-    rw (p.1, p.2) (subst P (sym c.in_err-byte.ensures.err) (reading_undecided old middle c.loop-at.at c.loop-at.state c.loop-at.invariant.reading (omega arith)))
+    let old = c.args.feed.now.source in
+    let middle = c.loop-at.feed.source in
+    let new = c.next_byte.new.self.source in
+    rw (p.1, p.2) (reading_undecided old middle new c.loop-at.at c.loop-at.state c.loop-at.invariant.reading c.in_err-byte.ensures.err (omega arith))
 
 pub returns-in_default-clause-fault : goal.returns-in_default-clause-fault
 returns-in_default-clause-fault g c =
-    let old = left_of (g.S.Source.view c.args.src.now).left c.args.feed.now in
-    let middle = left_of (g.S.Source.view c.loop-at.src).left c.loop-at.feed in
-    let new = left_of (g.S.Source.view c.next_byte.new.src).left c.next_byte.new.feed in
+    let old = c.args.feed.now.source in
+    let middle = c.loop-at.feed.source in
+    let new = c.next_byte.new.self.source in
     let ended = none_of c.in_ok-byte.field-0 (TookAll middle new []) c.in_default.is c.in_ok-byte.ensures.end in
     let P : PageFault → Type 0 = Refuses old new in
     subst P (sym c.missing_byte.ensures) (end_fails old middle new c.loop-at.at c.loop-at.state c.loop-at.invariant.reading ended (omega arith))
 
 pub returns-in_default-next_state-clause-fault : goal.returns-in_default-next_state-clause-fault
 returns-in_default-next_state-clause-fault g c =
-    let old = left_of (g.S.Source.view c.args.src.now).left c.args.feed.now in
-    let middle = left_of (g.S.Source.view c.loop-at.src).left c.loop-at.feed in
-    let new = left_of (g.S.Source.view c.next_byte.new.src).left c.next_byte.new.feed in
+    let old = c.args.feed.now.source in
+    let middle = c.loop-at.feed.source in
+    let new = c.next_byte.new.self.source in
     let took = some_of c.in_ok-byte.field-0 c.in-Some.byte (λ byte. Took middle new (byte ∷ [])) c.in-Some.is c.in_ok-byte.ensures.byte in
     let step : next_state c.loop-at.state c.in-Some.byte ≡ None = sym c.in_default-next_state.ensures in
     let P : PageFault → Type 0 = Refuses old new in
@@ -46,9 +47,9 @@ returns-in_default-next_state-clause-fault g c =
 
 pub returns-in-Whole-clause-told : goal.returns-in-Whole-clause-told
 returns-in-Whole-clause-told g c =
-    let old = left_of (g.S.Source.view c.args.src.now).left c.args.feed.now in
-    let middle = left_of (g.S.Source.view c.loop-at.src).left c.loop-at.feed in
-    let new = left_of (g.S.Source.view c.next_byte.new.src).left c.next_byte.new.feed in
+    let old = c.args.feed.now.source in
+    let middle = c.loop-at.feed.source in
+    let new = c.next_byte.new.self.source in
     let took = some_of c.in_ok-byte.field-0 c.in-Some.byte (λ byte. Took middle new (byte ∷ [])) c.in-Some.is c.in_ok-byte.ensures.byte in
     let step : next_state c.loop-at.state c.in-Some.byte ≡ Some (Whole c.in-Whole.form c.in-Whole.width c.in-Whole.height) =
     sym c.in-Some-next_state.ensures ∙ ap (λ (s : HeaderState). Some s) c.in-Whole.is in
@@ -56,40 +57,41 @@ returns-in-Whole-clause-told g c =
 
 pub loop-at-preserved : goal.loop-at-preserved
 loop-at-preserved g c =
-    let old = left_of (g.S.Source.view c.args.src.now).left c.args.feed.now in
-    let middle = left_of (g.S.Source.view c.loop-at.src).left c.loop-at.feed in
-    let new = left_of (g.S.Source.view c.next_byte.new.src).left c.next_byte.new.feed in
+    let old = c.args.feed.now.source in
+    let middle = c.loop-at.feed.source in
+    let new = c.next_byte.new.self.source in
     let took = some_of c.in_ok-byte.field-0 c.in-Some.byte (λ byte. Took middle new (byte ∷ [])) c.in-Some.is c.in_ok-byte.ensures.byte in
     let step : next_state c.loop-at.state c.in-Some.byte ≡ Some c.in-Some-next_state.next = sym c.in-Some-next_state.ensures in
     record {
       reading = reading_on old middle new c.loop-at.at c.in-Some.byte c.loop-at.state c.in-Some-next_state.next c.loop-at.invariant.reading took step (not_whole c.in-Some-next_state.next c.in_default-next.not-Whole);
+      same = c.next_byte.ensures.same ∙ c.loop-at.invariant.same;
       later = omega arith;
     }
 
 -- the loop was left at its end
-at_limit : (old now : Option (List ℕ)) (at : ℕ) (state : HeaderState) → IsReading old now at state → at ≤ 65536 → 65536 ≤ at → IsReading old now 65536 state
+at_limit : (old now : SourceView) (at : ℕ) (state : HeaderState) → IsReading old now at state → at ≤ 65536 → 65536 ≤ at → IsReading old now 65536 state
 at_limit old now at state r le ge = let e : at ≡ 65536 = omega (arith, le, ge) in subst (λ (n : ℕ). IsReading old now n state) e r
 
 pub returns-in_err-next_byte-clause-fault : goal.returns-in_err-next_byte-clause-fault
 returns-in_err-next_byte-clause-fault g c =
     let p = err_from_is_err_and c.from_residual-in_err-next_byte.result c.from_residual-in_err-next_byte.ensures.1 in
-    let old = left_of (g.S.Source.view c.args.src.now).left c.args.feed.now in
-    let middle = left_of (g.S.Source.view c.loop-at.src).left c.loop-at.feed in
-    let P : Option (List ℕ) → Type 0 = λ k. Refuses old k ReadFault in
-    rw (p.1, p.2) (subst P (sym c.in_err-next_byte.ensures.err) (reading_undecided old middle c.loop-at.at c.loop-at.state c.loop-at.invariant.reading (omega arith)))
+    let old = c.args.feed.now.source in
+    let middle = c.loop-at.feed.source in
+    let new = c.next_byte-2.new.self.source in
+    rw (p.1, p.2) (reading_undecided old middle new c.loop-at.at c.loop-at.state c.loop-at.invariant.reading c.in_err-next_byte.ensures.err (omega arith))
 
 pub returns-in-Some-2-clause-fault : goal.returns-in-Some-2-clause-fault
 returns-in-Some-2-clause-fault g c =
-    let old = left_of (g.S.Source.view c.args.src.now).left c.args.feed.now in
-    let middle = left_of (g.S.Source.view c.loop-at.src).left c.loop-at.feed in
-    let new = left_of (g.S.Source.view c.next_byte-2.new.src).left c.next_byte-2.new.feed in
+    let old = c.args.feed.now.source in
+    let middle = c.loop-at.feed.source in
+    let new = c.next_byte-2.new.self.source in
     let took = some_of c.in_ok-next_byte.field-0 c.in-Some-2.field-0 (λ byte. Took middle new (byte ∷ [])) c.in-Some-2.is c.in_ok-next_byte.ensures.byte in
     limit_more old middle new c.in-Some-2.field-0 c.loop-at.state (at_limit old middle c.loop-at.at c.loop-at.state c.loop-at.invariant.reading (omega arith) (omega arith)) took
 
 pub returns-in-None-clause-fault : goal.returns-in-None-clause-fault
 returns-in-None-clause-fault g c =
-    let old = left_of (g.S.Source.view c.args.src.now).left c.args.feed.now in
-    let middle = left_of (g.S.Source.view c.loop-at.src).left c.loop-at.feed in
-    let new = left_of (g.S.Source.view c.next_byte-2.new.src).left c.next_byte-2.new.feed in
+    let old = c.args.feed.now.source in
+    let middle = c.loop-at.feed.source in
+    let new = c.next_byte-2.new.self.source in
     let ended = none_of c.in_ok-next_byte.field-0 (TookAll middle new []) c.in-None.is c.in_ok-next_byte.ensures.end in
     limit_end old middle new c.loop-at.state (at_limit old middle c.loop-at.at c.loop-at.state c.loop-at.invariant.reading (omega arith) (omega arith)) ended

@@ -1,10 +1,10 @@
-use Rattle.std.proofs.Common.{◌≤◌}
-use Rattle.pbm_reader.specs.Left.{left_of}
+use Rattle.std.proofs.Common.{◌≡◌, ◌≤◌}
 use Rattle.pbm_reader.proofs.HeaderLoop.{IsReading}
 use Rattle.pbm_reader.proofs.header.read_told.Given as goal
 
 abbrev pub invariant-loop-at : goal.invariant-loop-at
 invariant-loop-at g l = record {
-  reading : IsReading (left_of (g.S.Source.view l.initial.src).left l.initial.feed) (left_of (g.S.Source.view l.src).left l.feed) l.at l.state;
-  later : (g.S.Source.view l.initial.src).faults ≤ (g.S.Source.view l.src).faults;
+  reading : IsReading l.initial.feed.source l.feed.source l.at l.state;
+  same : l.feed.borrow ≡ l.initial.feed.borrow;
+  later : l.initial.feed.source.faults ≤ l.feed.source.faults;
 }

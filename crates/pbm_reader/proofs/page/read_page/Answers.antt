@@ -1,26 +1,26 @@
-use Rattle.std.proofs.Common.{◌∙◌}
-use Rattle.pbm_reader.specs.Left.{left_of}
-use Rattle.pbm_reader.proofs.WholePage.{from_empty, page_from, only_memory, only_fault}
+use Rattle.std.proofs.Common.{◌≡◌, [], ◌∙◌, rules}
+use Rattle.pbm_reader.specs.Feed.{with_unread}
+use Rattle.pbm_reader.proofs.Fed.{left_first, calm_fed}
+use Rattle.pbm_reader.proofs.WholePage.{only_memory, only_fault}
 use Rattle.pbm_reader.proofs.page.read_page.Goals as goal
 
 pub returns-clause-complete : goal.returns-clause-complete
 returns-clause-complete g c =
-    let before = (g.S.Source.view c.args.src.now).left in
-    let after = (g.S.Source.view c.read_from.new.src).left in
+    let old = g.S.Source.view c.args.src.now in
+    let first = c.new-feed.result.source in
+    let last = c.read_from-result.new.feed.source in
+    let begins : first ≡ with_unread [] old = search rules in
     λ input told page calm.
-    only_memory (left_of before c.in_ok-feed.feed) (left_of after c.read_from.new.feed) (g.S.Source.view c.args.src.now).faults (g.S.Source.view c.read_from.new.src).faults
-    c.read_from.result input c.read_from.ensures.fault c.read_from.ensures.cause (from_empty before c.in_ok-feed.feed c.in_ok-feed.ensures ∙ told) page calm
+    only_memory first last c.read_from-result.result input c.read_from-result.ensures.fault c.read_from-result.ensures.cause
+    (left_first old first begins ∙ told) page (calm_fed old first last _ begins (search rules) calm)
 
 pub returns-clause-faulty : goal.returns-clause-faulty
 returns-clause-faulty g c =
-    let before = (g.S.Source.view c.args.src.now).left in
-    let after = (g.S.Source.view c.read_from.new.src).left in
+    let old = g.S.Source.view c.args.src.now in
+    let first = c.new-feed.result.source in
+    let last = c.read_from-result.new.feed.source in
+    let begins : first ≡ with_unread [] old = search rules in
     λ input fault told has calm.
-    only_fault g.R.RowSink.begun g.R.RowSink.given (left_of before c.in_ok-feed.feed) (left_of after c.read_from.new.feed) c.args.rows.now c.read_from.new.rows
-    (g.S.Source.view c.args.src.now).faults (g.S.Source.view c.read_from.new.src).faults
-    c.read_from.result input fault c.read_from.ensures.page c.read_from.ensures.fault c.read_from.ensures.cause (from_empty before c.in_ok-feed.feed c.in_ok-feed.ensures ∙ told) has calm
-
-pub returns-clause-page : goal.returns-clause-page
-returns-clause-page g c =
-    page_from g.R.RowSink.begun g.R.RowSink.given (g.S.Source.view c.args.src.now).left (g.S.Source.view c.read_from.new.src).left c.in_ok-feed.feed c.read_from.new.feed c.args.rows.now c.read_from.new.rows
-    c.read_from.result c.in_ok-feed.ensures c.read_from.ensures.page
+    only_fault g.R.RowSink.begun g.R.RowSink.given first last c.args.rows.now c.read_from-result.new.rows c.read_from-result.result input fault
+    c.read_from-result.ensures.page c.read_from-result.ensures.fault c.read_from-result.ensures.cause
+    (left_first old first begins ∙ told) has (calm_fed old first last _ begins (search rules) calm)

@@ -1,24 +1,23 @@
 use Rattle.std.proofs.Common.{length, refl, ◌∙◌, arith}
 use Rattle.std.proofs.lemmas.Result.{err_from_is_err_and}
-use Rattle.pbm_reader.specs.Left.{left_of}
-use Rattle.pbm_reader.proofs.PixelLoop.{row_white, filling_begins, filling_on, filling_white, filling_fails, filled}
+use Rattle.pbm_reader.proofs.PixelLoop.{filling_begins, filling_on, filling_white, filling_fails, filled}
 use Rattle.pbm_reader.proofs.plain.fill_pixels.Goals as goal
 
 pub loop-x-init : goal.loop-x-init
 loop-x-init g c =
-    let f = c.fill.ensures in
+    let f = c.whiten.ensures in
     record {
-      filling = filling_begins (left_of (g.S.Source.view c.args.src.now).left c.args.feed.now) c.args.start c.fill.new.self c.requires.low
-          (row_white (length c.args.row.now) c.fill.new.self f.len (λ k d lt. f.clones k d lt refl));
+      filling = filling_begins (c.args.feed.now.source) c.args.start c.whiten.new.bits c.requires.low f.pixels;
       buffer = f.len ∙ c.requires.len;
       low = c.requires.low;
+      same = refl;
       later = omega arith;
     }
 
 pub put_pixel-requires : goal.put_pixel-requires
 put_pixel-requires g c =
-    let old = left_of (g.S.Source.view c.args.src.now).left c.args.feed.now in
-    let middle = left_of (g.S.Source.view c.loop-x.src).left c.loop-x.feed in
+    let old = c.args.feed.now.source in
+    let middle = c.loop-x.feed.source in
     record {
       within = omega (arith, c.loop-x.invariant.buffer);
       white = filling_white old middle c.args.start c.loop-x.at c.loop-x.x c.loop-x.row c.loop-x.invariant.filling;
@@ -26,28 +25,29 @@ put_pixel-requires g c =
 
 pub loop-x-preserved : goal.loop-x-preserved
 loop-x-preserved g c =
-    let old = left_of (g.S.Source.view c.args.src.now).left c.args.feed.now in
-    let middle = left_of (g.S.Source.view c.loop-x.src).left c.loop-x.feed in
-    let new = left_of (g.S.Source.view c.next_pixel.new.src).left c.next_pixel.new.feed in
+    let old = c.args.feed.now.source in
+    let middle = c.loop-x.feed.source in
+    let new = c.next_pixel.new.feed.source in
     let took = c.in_ok-pixel.ensures.pixel in
     record {
       filling = filling_on old middle new c.args.start c.loop-x.at c.in_ok-pixel.pixel.end c.loop-x.x c.in_ok-pixel.pixel.is_black c.loop-x.row c.put_pixel.new.row c.loop-x.invariant.filling
           took c.put_pixel.ensures.pixels;
       buffer = c.put_pixel.ensures.len ∙ c.loop-x.invariant.buffer;
       low = took.low;
+      same = c.next_pixel.ensures.same ∙ c.loop-x.invariant.same;
       later = omega arith;
     }
 
 pub returns-in_err-pixel-clause-fault : goal.returns-in_err-pixel-clause-fault
 returns-in_err-pixel-clause-fault g c =
     let p = err_from_is_err_and c.from_residual.result c.from_residual.ensures.1 in
-    let old = left_of (g.S.Source.view c.args.src.now).left c.args.feed.now in
-    let middle = left_of (g.S.Source.view c.loop-x.src).left c.loop-x.feed in
-    let new = left_of (g.S.Source.view c.next_pixel.new.src).left c.next_pixel.new.feed in
+    let old = c.args.feed.now.source in
+    let middle = c.loop-x.feed.source in
+    let new = c.next_pixel.new.feed.source in
     rw (p.1, p.2) (filling_fails old middle new c.args.start c.loop-x.at c.loop-x.x c.args.width c.loop-x.row c.in_err-pixel.field-0.0 c.loop-x.invariant.filling (omega arith) c.in_err-pixel.ensures.fault)
 
 pub returns-clause-ok : goal.returns-clause-ok
 returns-clause-ok g c =
-    let old = left_of (g.S.Source.view c.args.src.now).left c.args.feed.now in
-    let now = left_of (g.S.Source.view c.loop-x.src).left c.loop-x.feed in
+    let old = c.args.feed.now.source in
+    let now = c.loop-x.feed.source in
     filled old now c.args.start c.loop-x.at c.loop-x.x c.args.width c.loop-x.row c.loop-x.invariant.filling (omega arith) c.loop-x.invariant.buffer

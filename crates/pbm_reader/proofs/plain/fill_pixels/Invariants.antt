@@ -1,13 +1,13 @@
 use Rattle.std.proofs.Common.{◌≡◌, ◌≤◌, length}
-use Rattle.pbm_reader.specs.Left.{left_of}
 use Rattle.pbm_reader.specs.Page.{row_len}
 use Rattle.pbm_reader.proofs.PixelLoop.{IsFilling}
 use Rattle.pbm_reader.proofs.plain.fill_pixels.Given as goal
 
 abbrev pub invariant-loop-x : goal.invariant-loop-x
 invariant-loop-x g l = record {
-  filling : IsFilling (left_of (g.S.Source.view l.initial.src).left l.initial.feed) (left_of (g.S.Source.view l.src).left l.feed) l.start l.at l.x l.row;
+  filling : IsFilling l.initial.feed.source l.feed.source l.start l.at l.x l.row;
   buffer : length l.row ≡ row_len l.width;
   low : l.at ≤ 268435456;
-  later : (g.S.Source.view l.initial.src).faults ≤ (g.S.Source.view l.src).faults;
+  same : l.feed.borrow ≡ l.initial.feed.borrow;
+  later : l.initial.feed.source.faults ≤ l.feed.source.faults;
 }

@@ -1,10 +1,10 @@
-use Rattle.std.proofs.Common.{◌≤◌}
-use Rattle.pbm_reader.specs.Left.{left_of}
+use Rattle.std.proofs.Common.{◌≡◌, ◌≤◌}
 use Rattle.pbm_reader.proofs.PixelLoop.{IsBetween}
 use Rattle.pbm_reader.proofs.plain.next_pixel.Given as goal
 
 abbrev pub invariant-loop-at : goal.invariant-loop-at
 invariant-loop-at g l = record {
-  between : IsBetween (left_of (g.S.Source.view l.initial.src).left l.initial.feed) (left_of (g.S.Source.view l.src).left l.feed) l.start l.at l.in_comment;
-  later : (g.S.Source.view l.initial.src).faults ≤ (g.S.Source.view l.src).faults;
+  between : IsBetween l.initial.feed.source l.feed.source l.start l.at l.in_comment;
+  same : l.feed.borrow ≡ l.initial.feed.borrow;
+  later : l.initial.feed.source.faults ≤ l.feed.source.faults;
 }

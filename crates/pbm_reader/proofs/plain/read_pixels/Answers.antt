@@ -1,5 +1,4 @@
 use Rattle.std.proofs.Common.{ℕ, sym, subst}
-use Rattle.pbm_reader.specs.Left.{left_of}
 use Rattle.pbm_reader.specs.Page.{IsPackedRow}
 use Rattle.pbm_reader.proofs.PixelLoop.{row_packed}
 use Rattle.pbm_reader.proofs.plain.read_pixels.Goals as goal
@@ -7,8 +6,8 @@ use Rattle.pbm_reader.proofs.plain.read_pixels.Goals as goal
 pub row-requires-clause-packed : goal.row-requires-clause-packed
 row-requires-clause-packed g c =
     let P : ℕ → Type 0 = λ width. IsPackedRow width c.fill_pixels.new.row in
-    let old = left_of (g.S.Source.view c.args.src.now).left c.args.feed.now in
-    let now = left_of (g.S.Source.view c.fill_pixels.new.src).left c.fill_pixels.new.feed in
+    let old = c.args.feed.now.source in
+    let now = c.fill_pixels.new.feed.source in
     subst P (sym c.requires.width) (row_packed old now c.args.start c.in_ok-end.end c.args.width c.fill_pixels.new.row c.in_ok-end.ensures.ok)
 
 pub returns-clause-ok : goal.returns-clause-ok

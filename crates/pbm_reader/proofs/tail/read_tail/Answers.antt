@@ -1,7 +1,7 @@
 use Rattle.std.proofs.Common.{◌≡◌, ℕ, ◌+◌, ◌<◌, [], ◌∷◌, Option, Some, Result, Ok, Err, subst, arith}
 use Rattle.std.specs.Prelude.{IfSome, OnOk, IfErr}
 use Rattle.pbm_reader.specs.Spelling.{MayFollow}
-use Rattle.pbm_reader.specs.Left.{left_of, Took}
+use Rattle.layout_outside.specs.Taken.{Took}
 use Rattle.pbm_reader.specs.Tail.{RestFails, TailFails, TookRest, TookTail}
 use Rattle.pbm_reader.proofs.TailLoop.{tail_taken, tail_fails}
 use Rattle.pbm_reader.proofs.tail.read_tail.Goals as goal
@@ -19,9 +19,9 @@ err_map (Err e) P Q f p = f e p
 
 pub returns-clause-ok : goal.returns-clause-ok
 returns-clause-ok g c =
-    let old = left_of (g.S.Source.view c.args.src.now).left c.args.feed.now in
-    let middle = left_of (g.S.Source.view c.next_byte.new.src).left c.next_byte.new.feed in
-    let new = left_of (g.S.Source.view c.skip_rest.new.src).left c.skip_rest.new.feed in
+    let old = c.args.feed.now.source in
+    let middle = c.next_byte.new.self.source in
+    let new = c.skip_rest.new.feed.source in
     let took = some_of c.in_ok-byte.field-0 c.in-Some.byte (λ byte. Took old middle (byte ∷ [])) c.in-Some.is c.in_ok-byte.ensures.byte in
     let follows : MayFollow c.args.form (c.in-Some.byte ∷ []) = c.may_follow.ensures.0 c.if-not-may_follow.false in
     ok_map c.skip_rest.result (TookRest middle new (c.args.start + 1)) (TookTail old new c.args.form c.args.start)
@@ -29,9 +29,9 @@ returns-clause-ok g c =
 
 pub returns-clause-fault : goal.returns-clause-fault
 returns-clause-fault g c =
-    let old = left_of (g.S.Source.view c.args.src.now).left c.args.feed.now in
-    let middle = left_of (g.S.Source.view c.next_byte.new.src).left c.next_byte.new.feed in
-    let new = left_of (g.S.Source.view c.skip_rest.new.src).left c.skip_rest.new.feed in
+    let old = c.args.feed.now.source in
+    let middle = c.next_byte.new.self.source in
+    let new = c.skip_rest.new.feed.source in
     let took = some_of c.in_ok-byte.field-0 c.in-Some.byte (λ byte. Took old middle (byte ∷ [])) c.in-Some.is c.in_ok-byte.ensures.byte in
     let follows : MayFollow c.args.form (c.in-Some.byte ∷ []) = c.may_follow.ensures.0 c.if-not-may_follow.false in
     let low : c.args.start < 268435456 = omega arith in

@@ -1,12 +1,12 @@
-use Rattle.std.proofs.Common.{◌≤◌}
-use Rattle.pbm_reader.specs.Left.{left_of}
+use Rattle.std.proofs.Common.{◌≡◌, ◌≤◌}
 use Rattle.pbm_reader.proofs.TailLoop.{IsSkipping}
 use Rattle.pbm_reader.proofs.tail.skip_rest.Given as goal
 
 abbrev pub invariant-loop-count : goal.invariant-loop-count
 invariant-loop-count g l = record {
-  skipping : IsSkipping (left_of (g.S.Source.view l.initial.src).left l.initial.feed) (left_of (g.S.Source.view l.src).left l.feed) l.start l.left;
-  later : (g.S.Source.view l.initial.src).faults ≤ (g.S.Source.view l.src).faults;
+  skipping : IsSkipping l.initial.feed.source l.feed.source l.start l.left;
+  same : l.feed.borrow ≡ l.initial.feed.borrow;
+  later : l.initial.feed.source.faults ≤ l.feed.source.faults;
 }
 
 abbrev pub decreases-loop-count : goal.decreases-loop-count

@@ -1,17 +1,16 @@
-use Rattle.std.proofs.Common.{◌≤◌, ◌-◌, ◌++◌, ◌∙◌, ℕ, List, length, take, ap, sym, arith}
+use Rattle.std.proofs.Common.{◌≤◌, ◌-◌, ◌++◌, ◌∙◌, ℕ, List, length, take, ap, sym, arith, refl}
 use Rattle.std.specs.Io.KnownBytes.{prepend_known}
 use Rattle.std.proofs.lemmas.List.{length-take-le, length-append}
 use borrow.Rule.Slice.PartMut.{post_of}
-use Rattle.pbm_reader.specs.Left.{left_of}
 use Rattle.pbm_reader.proofs.Copied.{take_behind_part}
 use Rattle.pbm_reader.proofs.Taken.{took_more}
-use Rattle.pbm_reader.proofs.feed.fill.Goals as goal
+use Rattle.pbm_reader.proofs.feed.Feed.fill.Goals as goal
 
 pub loop-at-preserved : goal.loop-at-preserved
 loop-at-preserved g c =
-    let old = left_of (g.S.Source.view c.args.src.now).left c.args.feed.now in
-    let middle = left_of (g.S.Source.view c.loop-at.src).left c.loop-at.feed in
-    let new = left_of (g.S.Source.view c.next_bytes.new.src).left c.next_bytes.new.feed in
+    let old = c.args.self.now.source in
+    let middle = c.loop-at.self.source in
+    let new = c.next_bytes.new.self.source in
     let buf = c.loop-at.buf in
     let at = c.loop-at.at in
     let part = c.next_bytes.new.buf in
@@ -20,7 +19,8 @@ loop-at-preserved g c =
     let after = post_of at (length buf - at) buf in
     let inside : at ≤ length buf = omega arith in
     record {
-      took = took_more old middle new (take at buf) (take count part) c.loop-at.invariant.took c.in_ok-count.ensures.bytes ∙ ap (λ (l : List ℕ). prepend_known l new) (sym front);
+      took = took_more old middle new (take at buf) (take count part) c.loop-at.invariant.took c.in_ok-count.ensures.bytes ∙ ap (λ (l : List ℕ). prepend_known l new.left) (sym front);
       within = omega (arith, length-append (take at buf) (part ++ after), length-append part after, length-take-le at buf inside, c.in_ok-count.ensures.bound);
+      same = c.next_bytes.ensures.same ∙ c.loop-at.invariant.same;
       later = omega arith;
     }

@@ -1,6 +1,6 @@
 use Rattle.std.proofs.Common.{◌+◌, ◌-◌, ◌∙◌, ℕ, List, take, drop, ap, sym, arith}
 use Rattle.pbm_reader.proofs.Copied.{copied_front}
-use Rattle.pbm_reader.proofs.feed.Feed.copy_to.Goals as goal
+use Rattle.pbm_reader.proofs.feed.Piece.copy_to.Goals as goal
 
 pub returns-clause-bytes : goal.returns-clause-bytes
 returns-clause-bytes c =
