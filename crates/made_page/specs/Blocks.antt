@@ -2,7 +2,8 @@
 use Rattle.std.specs.Prelude.{ℕ, ◌+◌, ◌-◌, ◌*◌, ◌/◌, ◌%◌, List, ◌++◌, map}
 use Rattle.std.specs.List.{range_with_len}
 use Rattle.made_page.specs.declared.block.Block.{Block}
-use Rattle.made_page.specs.declared.blocks.TheConstants.{COLUMNS, COLUMN_STEP, FIRST_FOOT, FIRST_LEFT, GLYPHS, GLYPH_STEP, HEIGHTS, LEAST_SIDE, PLACES, ROWS, ROW_STEP, SPECK_LEFT, SPECK_SIDE, WIDTHS}
+use Rattle.made_page.specs.declared.blocks.TheConstants.{COLUMNS, COLUMN_STEP, FIRST_FOOT, FIRST_LEFT, GLYPHS, GLYPH_STEP, HEIGHTS}
+use Rattle.made_page.specs.declared.blocks.TheConstants.{LEAST_SIDE, PLACES, ROWS, ROW_STEP, SPECK_LEFT, SPECK_SIDE, WIDTHS}
 use Rattle.made_page.specs.Draws.{draw}
 
 -- the rows of glyphs stand one under the other, and the blocks of a row stand on one foot
@@ -17,8 +18,8 @@ glyph_left column place = FIRST_LEFT + COLUMN_STEP * column + GLYPH_STEP * place
 abbrev pub block_at : ℕ → ℕ → ℕ → ℕ → Block
 block_at left foot width height = record { left = left; right = left + width; top = foot - height; foot = foot }
 
--- the glyphs are numbered from 0 by rows, in a row by its columns, and in a column by its places; each is as wide as the first of its two draws
--- says, and as high as the second
+-- the glyphs are numbered from 0 by rows, in a row by its columns, and in a column by its places; each is as wide as the first of its
+-- two draws says, and as high as the second
 unfoldable pub glyph : ℕ → ℕ → Block
 glyph seed number =
     block_at

@@ -21,10 +21,7 @@ impl Draws {
         ensures state { self.new.state ≡ state_behind self.old.state }
         ensures value { result ≡ state_behind self.old.state / 2 ^ 33 }
     {
-        self.state = self
-            .state
-            .wrapping_mul(MULTIPLIER)
-            .wrapping_add(INCREMENT);
+        self.state = self.state.wrapping_mul(MULTIPLIER).wrapping_add(INCREMENT);
         self.state >> 33
     }
 }

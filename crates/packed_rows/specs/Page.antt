@@ -1,5 +1,6 @@
 -- A page, and its rows as packed bytes.
-use Rattle.std.specs.Prelude.{◌≡◌, ◌≤◌, ◌<◌, ℕ, ◌+◌, ◌-◌, ◌*◌, ◌/◌, ◌%◌, Bool, ◌&&◌, IsTrue, List, length, slice_index, nat_lt, if◌then◌else◌}
+use Rattle.std.specs.Prelude.{◌≡◌, ◌≤◌, ◌<◌, ℕ, ◌+◌, ◌-◌, ◌*◌, ◌/◌, ◌%◌, Bool, ◌&&◌, IsTrue, List}
+use Rattle.std.specs.Prelude.{length, slice_index, nat_lt, if◌then◌else◌}
 use Rattle.std.specs.Int.{bit_at}
 use Rattle.layout_limits.specs.declared.TheConstants.{MAX_SIDE, MAX_PIXELS}
 
@@ -19,7 +20,11 @@ pub record Page : Type 0 where
 
 -- the page of this size on which these places are black; outside of it none is
 abbrev pub page_with : ℕ → ℕ → (ℕ → ℕ → Bool) → Page
-page_with width height is_black = record { width = width; height = height; is_black = λ x y. (nat_lt x width && nat_lt y height) && is_black x y }
+page_with width height is_black = record {
+  width = width;
+  height = height;
+  is_black = λ x y. (nat_lt x width && nat_lt y height) && is_black x y;
+}
 
 -- every black place of the page lies inside it
 abbrev pub IsClipped : Page → Type 0

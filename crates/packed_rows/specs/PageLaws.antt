@@ -1,5 +1,6 @@
 -- What follows from the definition of a page.
-use Rattle.std.proofs.Common.{◌≡◌, ℕ, zero, suc, ◌-◌, ◌*◌, ◌/◌, ◌%◌, ◌<◌, ◌≤◌, Bool, true, false, cond, eqb, ltb, ◌&&◌, List, length, inl, inr, refl, ap, ◌∙◌, arith}
+use Rattle.std.proofs.Common.{◌≡◌, ℕ, zero, suc, ◌-◌, ◌*◌, ◌/◌, ◌%◌, ◌<◌, ◌≤◌, Bool, true, false, cond}
+use Rattle.std.proofs.Common.{eqb, ltb, ◌&&◌, List, length, inl, inr, refl, ap, ◌∙◌, arith}
 use Rattle.std.specs.Int.{bit_at}
 use Rattle.std.proofs.lemmas.List.{get_or_past}
 use Rattle.std.proofs.lemmas.Nat.Bits.{bit_at-zero}
@@ -11,7 +12,8 @@ use Rattle.packed_rows.specs.Page.{Page, page_with, pixel, IsClipped, HasPicture
 
 -- no place outside of the page is black
 pub with_clipped : (width height : ℕ) (is_black : ℕ → ℕ → Bool) → IsClipped (page_with width height is_black)
-with_clipped width height is_black x y black = inside (ltb x width) (ltb y height) (is_black x y) black (λ t. grind (arith, nat_tests)) (λ t. grind (arith, nat_tests))
+with_clipped width height is_black x y black =
+    inside (ltb x width) (ltb y height) (is_black x y) black (λ t. grind (arith, nat_tests)) (λ t. grind (arith, nat_tests))
   where
     inside : (a b c : Bool) → IsTrue ((a && b) && c) → (IsTrue a → x < width) → (IsTrue b → y < height) → (x < width) × (y < height)
     inside true true c h left above = (left refl, above refl)
@@ -37,7 +39,8 @@ one_picture p q first second picture =
     both_white x y outside =
         let wide = picture.width_is in
         let high = picture.height_is in
-        let white : p.is_black x y ≡ false = white_outside p x y first (λ inside. outside (omega (arith, inside.0, wide), omega (arith, inside.1, high))) in
+        let white : p.is_black x y ≡ false =
+        white_outside p x y first (λ inside. outside (omega (arith, inside.0, wide), omega (arith, inside.1, high))) in
         let also : q.is_black x y ≡ false = white_outside q x y second outside in
         cc
 
@@ -60,7 +63,8 @@ black_bit (suc (suc n)) lt = absurd (omega arith)
 
 -- behind the bytes of a row nothing is black
 pub white_past : (bits : List ℕ) (x : ℕ) → 8 * length bits ≤ x → pixel bits x ≡ 0
-white_past bits x past = ap (λ (byte : ℕ). bit_at byte (7 - x % 8)) (get_or_past bits (x / 8) 0 (omega (arith, past))) ∙ bit_at-zero (7 - x % 8)
+white_past bits x past =
+    ap (λ (byte : ℕ). bit_at byte (7 - x % 8)) (get_or_past bits (x / 8) 0 (omega (arith, past))) ∙ bit_at-zero (7 - x % 8)
 
 -- a packed row whose pixels inside are those of these places is a row of the page on which they are black
 pub row_of_page : (width height : ℕ) (is_black : ℕ → ℕ → Bool) (y : ℕ) (bits : List ℕ) → IsPackedRow width bits → y < height

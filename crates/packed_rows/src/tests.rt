@@ -8,7 +8,9 @@ fn a_row_of_ten_pixels_takes_two_bytes(rt: HostRuntime) -> Result<(), Fail> {
     let mut row = [0xA5u8, 0xFF];
     clear_padding(&mut row, 10);
     assert!(rt; row == [0xA5, 0xC0]);
-    assert!(rt; pixel(&row, 0) == 1 && pixel(&row, 1) == 0 && pixel(&row, 9) == 1 && pixel(&row, 10) == 0);
+    assert!(rt;
+        pixel(&row, 0) == 1 && pixel(&row, 1) == 0 && pixel(&row, 9) == 1 && pixel(&row, 10) == 0
+    );
     whiten(&mut row);
     set_pixel(&mut row, 3);
     set_pixel(&mut row, 8);

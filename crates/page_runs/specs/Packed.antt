@@ -12,7 +12,8 @@ pub record Packed : Type 0 where
 
 -- the page, whose rows that are not there are white
 unfoldable pub page_of : Packed → Page
-page_of p = page_with p.width p.height (λ x y. nat_lt y p.rows && nat_eq (bit_at (slice_index p.bytes (y * row_len p.width + x / 8)) (7 - x % 8)) 1)
+page_of p =
+    page_with p.width p.height (λ x y. nat_lt y p.rows && nat_eq (bit_at (slice_index p.bytes (y * row_len p.width + x / 8)) (7 - x % 8)) 1)
 
 -- how many rows are there
 unfoldable pub rows_of : Packed → ℕ

@@ -1,7 +1,6 @@
 -- An input's fault is the verdict, and where it spells a page there is none.
-use Rattle.std.proofs.Common.{◌≡◌, ℕ, ◌+◌, ◌*◌, ◌<◌, ◌≤◌, ◌⊎◌, min, Bool, true, false, cond, eqb, ltb, List, [], ◌∷◌, ◌++◌, length, Option, Some, None, refl, sym, ap, subst, ◌∙◌, append_assoc, inl, inr, arith}
+use Rattle.std.proofs.Common.{◌≡◌, ℕ, ◌+◌, ◌*◌, ◌<◌, ◌≤◌, ◌⊎◌, min, Bool, true, false, cond, eqb, ltb, List, [], ◌∷◌, ◌++◌, length, Some, None, refl, sym, ap, subst, ◌∙◌, append_assoc, inl, inr, arith}
 use Rattle.std.proofs.lemmas.Bool.{cases_lt, lt-ltb, le-ltb, ne_eqb, false_from_ne_true}
-use Rattle.std.proofs.lemmas.Bool.Decides.{nat_tests}
 use Rattle.std.proofs.lemmas.List.{append-nil, length-append}
 use Rattle.pbm_reader.specs.declared.fault.PageFault.{PageFault}
 use Rattle.pbm_reader.specs.declared.fault.PageFault.TheVariants as faults
@@ -10,16 +9,15 @@ use Rattle.pbm_reader.specs.declared.form.Form.TheVariants.{Plain, Raw}
 use Rattle.pbm_reader.specs.declared.state.HeaderState.{HeaderState}
 use Rattle.pbm_reader.specs.declared.state.HeaderState.TheVariants.{Magic, Kind, Named, WidthGap, WidthComment, Width, HeightGap, HeightComment, Height, Whole}
 use Rattle.packed_rows.specs.Page.{Page, row_len}
-use Rattle.pbm_reader.specs.Spelling.{is_white, magic, IsSomeHeader, HasHeader, IsRaster, MayFollow, SpellsRows, Spells}
+use Rattle.pbm_reader.specs.Spelling.{is_white, magic, IsSomeHeader, IsRaster, MayFollow, SpellsRows, Spells}
 use Rattle.pbm_reader.specs.Header.{next_state}
-use Rattle.pbm_reader.specs.Fault.{HasMagic, IsFrontOf, IsMagicFault, IsHeaderFault, IsHeaderTooLong, HasPageHeader, EndsInHeader, EndsInRaster, IsZeroSize, IsTooLarge, IsPixelFault, IsTrailing, HasFaultWithin}
+use Rattle.pbm_reader.specs.Fault.{HasMagic, IsFrontOf, IsMagicFault, IsHeaderFault, IsHeaderTooLong, EndsInHeader, EndsInRaster, IsZeroSize, IsTooLarge, IsPixelFault, IsTrailing, HasFaultWithin}
 use Rattle.pbm_reader.proofs.Machines.{run, run_append, IsOpen, IsStuck, reached, reached_once, front_map, stops_map, front_state, stops_state}
-use Rattle.pbm_reader.proofs.HeaderWalk.{is_whole, header_machine, header_reads, is_read, is_header}
+use Rattle.pbm_reader.proofs.HeaderWalk.{is_whole, header_machine, is_read, is_header}
 use Rattle.pbm_reader.proofs.RasterWalk.{RasterState, raster_step, is_done, wanted, raster_machine, spelled_reads, raster_is_read, read_is_raster}
 use Rattle.pbm_reader.proofs.RasterWalk.RasterState.{whole}
-
 use Rattle.pbm_reader.proofs.Gaps.{some_is, not_both}
-use Rattle.pbm_reader.proofs.Verdict.{tail_verdict, pixel_verdict, plain_verdict, raster_verdict, body_verdict, open_verdict, head_verdict, verdict, verdict_at, plain_at, done_stuck, verdict_behind, verdict_sized, open_reads}
+use Rattle.pbm_reader.proofs.Verdict.{tail_verdict, raster_verdict, body_verdict, open_verdict, head_verdict, verdict, verdict_at, plain_at, done_stuck, verdict_behind, verdict_sized, open_reads}
 
 -- ---- each fault is the verdict
 

@@ -1,24 +1,20 @@
 -- Each input spells a page or has a fault.
-use Rattle.std.proofs.Common.{◌≡◌, ℕ, ◌+◌, ◌-◌, ◌*◌, ◌<◌, ◌≤◌, ◌⊎◌, min, Bool, true, false, List, [], ◌∷◌, ◌++◌, length, take, drop, replicate, Option, Some, None, refl, sym, ap, subst, ◌∙◌, append_assoc, inl, inr, arith}
+use Rattle.std.proofs.Common.{◌≡◌, ℕ, ◌*◌, ◌<◌, ◌≤◌, ◌⊎◌, min, Bool, true, false, List, [], ◌∷◌, ◌++◌, length, take, drop, Some, refl, sym, ap, subst, inl, inr, arith}
 use Rattle.std.proofs.lemmas.Bool.{cases_lt}
-use Rattle.std.proofs.lemmas.List.{append-nil, length-append, length-take-le, length-drop, take-append-drop, length-replicate}
+use Rattle.std.proofs.lemmas.List.{append-nil, length-append, length-take-le, length-drop, take-append-drop}
 use Rattle.pbm_reader.specs.declared.fault.PageFault.{PageFault}
 use Rattle.pbm_reader.specs.declared.fault.PageFault.TheVariants as faults
 use Rattle.pbm_reader.specs.declared.form.Form.{Form}
-use Rattle.pbm_reader.specs.declared.form.Form.TheVariants.{Plain, Raw}
 use Rattle.pbm_reader.specs.declared.state.HeaderState.{HeaderState}
-use Rattle.pbm_reader.specs.declared.state.HeaderState.TheVariants.{Magic, Whole}
-use Rattle.packed_rows.specs.Page.{Page, IsPageSize, row_len}
-use Rattle.pbm_reader.specs.Spelling.{is_white, IsHeader, HasHeader, IsRaster, MayFollow, SpellsRows, SpellsPixels, pixels_page, raster_page, Spells, IsPage}
+use Rattle.pbm_reader.specs.declared.state.HeaderState.TheVariants.{Magic}
+use Rattle.packed_rows.specs.Page.{IsPageSize}
+use Rattle.pbm_reader.specs.Spelling.{IsHeader, IsPage}
 use Rattle.pbm_reader.specs.Header.{next_state, wrong_byte, missing_byte}
-use Rattle.pbm_reader.specs.Fault.{Begins, HasMagic, IsFrontOf, StopsAt, HasPageHeader, IsTruncated, IsInputTooLong, HasFaultWithin, HasFault, DecidesNothing}
-use Rattle.pbm_reader.proofs.Splits.{goes_on, has_byte}
-use Rattle.pbm_reader.proofs.Machines.{run, IsRead, IsOpen, IsStuck, Reached, reached, reached_once, front_of, stops_of, front_map, stops_map}
-use Rattle.pbm_reader.proofs.HeaderWalk.{is_whole, header_machine, header_reads, read_header}
-use Rattle.pbm_reader.proofs.RasterWalk.{RasterState, raster_step, is_done, wanted, raster_machine, read_pixels, spelled_reads, raster_is_read, read_is_raster}
-use Rattle.pbm_reader.proofs.RasterWalk.RasterState.{whole}
+use Rattle.pbm_reader.specs.Fault.{HasFaultWithin, HasFault}
+use Rattle.pbm_reader.proofs.Machines.{run, IsOpen, IsStuck, Reached, reached}
+use Rattle.pbm_reader.proofs.HeaderWalk.{is_whole, header_machine, read_header}
 use Rattle.pbm_reader.proofs.Faults.{wrong_fault, missing_fault, too_long}
-use Rattle.pbm_reader.proofs.Gaps.{some_is, none_some, not_both}
+use Rattle.pbm_reader.proofs.Gaps.{not_both}
 use Rattle.pbm_reader.proofs.Settled.{settled}
 use Rattle.pbm_reader.proofs.OneFault.{has_fault, long_fault}
 use Rattle.pbm_reader.proofs.RasterJudged.{JudgedWithin, sized_judged}

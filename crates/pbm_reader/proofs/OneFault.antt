@@ -1,20 +1,13 @@
 -- An input has at most one fault, and none where it spells a page.
-use Rattle.std.proofs.Common.{◌≡◌, ℕ, ◌+◌, ◌-◌, ◌*◌, ◌<◌, ◌≤◌, ◌⊎◌, min, Bool, true, false, List, [], ◌∷◌, ◌++◌, length, take, drop, replicate, Option, Some, None, refl, sym, ap, subst, ◌∙◌, append_assoc, inl, inr, arith}
-use Rattle.std.proofs.lemmas.Bool.{cases_lt}
-use Rattle.std.proofs.lemmas.List.{append-nil, length-append, length-take-le, length-drop, take-append-drop, length-replicate}
+use Rattle.std.proofs.Common.{◌≡◌, ℕ, ◌<◌, ◌≤◌, ◌⊎◌, List, [], ◌∷◌, ◌++◌, length, refl, sym, ap, subst, ◌∙◌, inl, inr, arith}
+use Rattle.std.proofs.lemmas.List.{append-nil, length-append}
 use Rattle.pbm_reader.specs.declared.fault.PageFault.{PageFault}
 use Rattle.pbm_reader.specs.declared.fault.PageFault.TheVariants as faults
-use Rattle.pbm_reader.specs.declared.form.Form.{Form}
-use Rattle.pbm_reader.specs.declared.form.Form.TheVariants.{Plain, Raw}
-use Rattle.pbm_reader.specs.declared.state.HeaderState.{HeaderState}
-use Rattle.pbm_reader.specs.declared.state.HeaderState.TheVariants.{Magic, Whole}
-use Rattle.packed_rows.specs.Page.{Page, IsPageSize, row_len}
-use Rattle.pbm_reader.specs.Spelling.{is_white, IsHeader, HasHeader, IsRaster, MayFollow, SpellsRows, SpellsPixels, pixels_page, raster_page, Spells, IsPage}
-use Rattle.pbm_reader.specs.Header.{next_state, wrong_byte, missing_byte}
-use Rattle.pbm_reader.specs.Fault.{Begins, HasMagic, IsFrontOf, StopsAt, HasPageHeader, IsTruncated, IsInputTooLong, HasFaultWithin, HasFault, DecidesNothing}
-use Rattle.pbm_reader.proofs.Splits.{goes_on, has_byte}
+use Rattle.packed_rows.specs.Page.{Page}
+use Rattle.pbm_reader.specs.Spelling.{Spells, IsPage}
+use Rattle.pbm_reader.specs.Fault.{HasMagic, IsTruncated, IsInputTooLong, HasFaultWithin, HasFault, DecidesNothing}
 use Rattle.pbm_reader.proofs.FaultVerdicts.{fault_verdict, page_verdict}
-use Rattle.pbm_reader.proofs.Gaps.{some_is, none_some, not_both}
+use Rattle.pbm_reader.proofs.Gaps.{some_is, none_some}
 use Rattle.pbm_reader.proofs.Settled.{settled}
 
 -- ---- within the limit

@@ -1,21 +1,15 @@
 -- An input spells at most one page.
-use Rattle.std.proofs.Common.{◌≡◌, ℕ, ◌+◌, ◌-◌, ◌*◌, ◌<◌, ◌≤◌, ◌⊎◌, min, Bool, true, false, List, [], ◌∷◌, ◌++◌, length, take, drop, replicate, Option, Some, None, refl, sym, ap, subst, ◌∙◌, append_assoc, inl, inr, arith}
-use Rattle.std.proofs.lemmas.Bool.{cases_lt}
-use Rattle.std.proofs.lemmas.List.{append-nil, length-append, length-take-le, length-drop, take-append-drop, length-replicate}
-use Rattle.pbm_reader.specs.declared.fault.PageFault.{PageFault}
-use Rattle.pbm_reader.specs.declared.fault.PageFault.TheVariants as faults
+use Rattle.std.proofs.Common.{◌≡◌, ℕ, ◌*◌, ◌≤◌, min, List, [], ◌∷◌, ◌++◌, length, refl, sym, ap, subst, ◌∙◌, arith}
+use Rattle.std.proofs.lemmas.List.{append-nil}
 use Rattle.pbm_reader.specs.declared.form.Form.{Form}
 use Rattle.pbm_reader.specs.declared.form.Form.TheVariants.{Plain, Raw}
-use Rattle.pbm_reader.specs.declared.state.HeaderState.{HeaderState}
 use Rattle.pbm_reader.specs.declared.state.HeaderState.TheVariants.{Magic, Whole}
-use Rattle.packed_rows.specs.Page.{Page, IsPageSize, row_len}
-use Rattle.pbm_reader.specs.Spelling.{is_white, IsHeader, HasHeader, IsRaster, MayFollow, SpellsRows, SpellsPixels, pixels_page, raster_page, Spells, IsPage}
-use Rattle.pbm_reader.specs.Header.{next_state, wrong_byte, missing_byte}
-use Rattle.pbm_reader.specs.Fault.{Begins, HasMagic, IsFrontOf, StopsAt, HasPageHeader, IsTruncated, IsInputTooLong, HasFaultWithin, HasFault, DecidesNothing}
-use Rattle.pbm_reader.proofs.Splits.{goes_on, has_byte}
-use Rattle.pbm_reader.proofs.Machines.{run, IsRead, IsOpen, IsStuck, Reached, reached, reached_once, front_of, stops_of, front_map, stops_map}
-use Rattle.pbm_reader.proofs.HeaderWalk.{is_whole, header_machine, header_reads, whole_form, whole_width, whole_height}
-use Rattle.pbm_reader.proofs.RasterWalk.{RasterState, raster_step, is_done, wanted, raster_machine, read_pixels, spelled_reads, raster_is_read, read_is_raster}
+use Rattle.packed_rows.specs.Page.{Page}
+use Rattle.pbm_reader.specs.Spelling.{MayFollow, SpellsRows, pixels_page, raster_page, Spells}
+use Rattle.pbm_reader.specs.Header.{next_state}
+use Rattle.pbm_reader.proofs.Machines.{reached_once}
+use Rattle.pbm_reader.proofs.HeaderWalk.{header_reads, whole_form, whole_width, whole_height}
+use Rattle.pbm_reader.proofs.RasterWalk.{raster_step, wanted, spelled_reads}
 use Rattle.pbm_reader.proofs.RasterWalk.RasterState.{whole}
 use Rattle.pbm_reader.proofs.Verdict.{whole_stuck, done_stuck}
 

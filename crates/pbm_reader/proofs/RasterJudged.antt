@@ -1,22 +1,17 @@
 -- An input whose header a page can have spells a page, or has a fault in its raster or behind it.
-use Rattle.std.proofs.Common.{◌≡◌, ℕ, ◌+◌, ◌-◌, ◌*◌, ◌<◌, ◌≤◌, ◌⊎◌, min, Bool, true, false, List, [], ◌∷◌, ◌++◌, length, take, drop, replicate, Option, Some, None, refl, sym, ap, subst, ◌∙◌, append_assoc, inl, inr, arith}
+use Rattle.std.proofs.Common.{◌≡◌, ℕ, ◌+◌, ◌-◌, ◌*◌, ◌<◌, ◌≤◌, ◌⊎◌, Bool, true, false, List, [], ◌∷◌, ◌++◌, length, take, drop, replicate, refl, sym, ap, subst, ◌∙◌, inl, inr, arith}
 use Rattle.std.proofs.lemmas.Bool.{cases_lt}
-use Rattle.std.proofs.lemmas.List.{append-nil, length-append, length-take-le, length-drop, take-append-drop, length-replicate}
+use Rattle.std.proofs.lemmas.List.{append-nil, length-append, length-take-le, take-append-drop, length-replicate}
 use Rattle.pbm_reader.specs.declared.fault.PageFault.{PageFault}
 use Rattle.pbm_reader.specs.declared.fault.PageFault.TheVariants as faults
 use Rattle.pbm_reader.specs.declared.form.Form.{Form}
 use Rattle.pbm_reader.specs.declared.form.Form.TheVariants.{Plain, Raw}
-use Rattle.pbm_reader.specs.declared.state.HeaderState.{HeaderState}
-use Rattle.pbm_reader.specs.declared.state.HeaderState.TheVariants.{Magic, Whole}
-use Rattle.packed_rows.specs.Page.{Page, IsPageSize, row_len}
-use Rattle.pbm_reader.specs.Spelling.{is_white, IsHeader, HasHeader, IsRaster, MayFollow, SpellsRows, SpellsPixels, pixels_page, raster_page, Spells, IsPage}
-use Rattle.pbm_reader.specs.Header.{next_state, wrong_byte, missing_byte}
-use Rattle.pbm_reader.specs.Fault.{Begins, HasMagic, IsFrontOf, StopsAt, HasPageHeader, IsTruncated, IsInputTooLong, HasFaultWithin, HasFault, DecidesNothing}
-use Rattle.pbm_reader.proofs.Splits.{goes_on, has_byte}
-use Rattle.pbm_reader.proofs.Machines.{run, IsRead, IsOpen, IsStuck, Reached, reached, reached_once, front_of, stops_of, front_map, stops_map}
-use Rattle.pbm_reader.proofs.RasterWalk.{RasterState, raster_step, is_done, wanted, raster_machine, read_pixels, spelled_reads, raster_is_read, read_is_raster}
-use Rattle.pbm_reader.proofs.RasterWalk.RasterState.{whole}
-use Rattle.pbm_reader.proofs.Gaps.{some_is, none_some, not_both}
+use Rattle.packed_rows.specs.Page.{Page, row_len}
+use Rattle.pbm_reader.specs.Spelling.{is_white, IsRaster, MayFollow, SpellsRows, SpellsPixels, pixels_page, raster_page, IsPage}
+use Rattle.pbm_reader.specs.Fault.{IsFrontOf, HasPageHeader, HasFaultWithin}
+use Rattle.pbm_reader.proofs.Machines.{IsRead, IsOpen, IsStuck, Reached, reached, front_of, stops_of, front_map, stops_map}
+use Rattle.pbm_reader.proofs.RasterWalk.{RasterState, raster_step, is_done, wanted, raster_machine, read_pixels, raster_is_read, read_is_raster}
+use Rattle.pbm_reader.proofs.Gaps.{not_both}
 
 -- the input spells a page, or has a fault within the limit
 abbrev pub JudgedWithin : List ℕ → Type 0

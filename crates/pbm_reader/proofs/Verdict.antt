@@ -1,23 +1,20 @@
 -- What the two machines make of an input: its one fault, or none where it spells a page.
-use Rattle.std.proofs.Common.{◌≡◌, ℕ, ◌+◌, ◌*◌, ◌<◌, ◌≤◌, ◌⊎◌, min, Bool, true, false, cond, eqb, ltb, List, [], ◌∷◌, ◌++◌, length, Option, Some, None, refl, sym, ap, subst, ◌∙◌, append_assoc, inl, inr, arith}
-use Rattle.std.proofs.lemmas.Bool.{cases_lt, lt-ltb, le-ltb}
-use Rattle.std.proofs.lemmas.Bool.Decides.{nat_tests}
-use Rattle.std.proofs.lemmas.List.{append-nil, length-append}
+use Rattle.std.proofs.Common.{◌≡◌, ℕ, ◌+◌, ◌*◌, min, Bool, false, cond, ltb, List, [], ◌∷◌, ◌++◌, length, Option, Some, None, refl, sym, ap, ◌∙◌, arith}
+use Rattle.std.proofs.lemmas.Bool.{lt-ltb, le-ltb}
 use Rattle.pbm_reader.specs.declared.fault.PageFault.{PageFault}
 use Rattle.pbm_reader.specs.declared.fault.PageFault.TheVariants as faults
 use Rattle.pbm_reader.specs.declared.form.Form.{Form}
 use Rattle.pbm_reader.specs.declared.form.Form.TheVariants.{Plain, Raw}
 use Rattle.pbm_reader.specs.declared.state.HeaderState.{HeaderState}
 use Rattle.pbm_reader.specs.declared.state.HeaderState.TheVariants.{Magic, Kind, Named, WidthGap, WidthComment, Width, HeightGap, HeightComment, Height, Whole}
-use Rattle.packed_rows.specs.Page.{Page, row_len}
-use Rattle.pbm_reader.specs.Spelling.{is_white, magic, IsSomeHeader, HasHeader, IsRaster, MayFollow, SpellsRows, Spells}
+use Rattle.packed_rows.specs.Page.{row_len}
+use Rattle.pbm_reader.specs.Spelling.{is_white, HasHeader}
 use Rattle.pbm_reader.specs.Header.{next_state}
-use Rattle.pbm_reader.specs.Fault.{HasMagic, IsFrontOf, IsMagicFault, IsHeaderFault, IsHeaderTooLong, HasPageHeader, EndsInHeader, EndsInRaster, IsZeroSize, IsTooLarge, IsPixelFault, IsTrailing, HasFaultWithin}
-use Rattle.pbm_reader.proofs.Machines.{run, run_append, IsOpen, IsStuck, reached, reached_once, front_map, stops_map, front_state, stops_state}
-use Rattle.pbm_reader.proofs.HeaderWalk.{is_whole, header_machine, header_reads, is_read, is_header}
-use Rattle.pbm_reader.proofs.RasterWalk.{RasterState, raster_step, is_done, wanted, raster_machine, spelled_reads, raster_is_read, read_is_raster}
+use Rattle.pbm_reader.specs.Fault.{HasPageHeader}
+use Rattle.pbm_reader.proofs.Machines.{run, IsOpen, IsStuck, reached, reached_once}
+use Rattle.pbm_reader.proofs.HeaderWalk.{is_whole, header_machine, header_reads}
+use Rattle.pbm_reader.proofs.RasterWalk.{RasterState, raster_step, is_done, wanted}
 use Rattle.pbm_reader.proofs.RasterWalk.RasterState.{whole}
-
 
 -- ---- the verdict
 

@@ -1,5 +1,5 @@
 -- A page is read exactly where the input spells one, and each refusal is the fault of the input.
-use Rattle.std.proofs.Common.{◌≡◌, ℕ, ◌+◌, ◌*◌, ◌⊎◌, ◌<◌, ◌≤◌, true, false, List, [], ◌∷◌, ◌++◌, length, Option, Some, None, Result, Ok, Err, refl, sym, ap, subst, ◌∙◌, append_assoc, append-nil, inl, inr, arith}
+use Rattle.std.proofs.Common.{◌≡◌, ℕ, ◌+◌, ◌⊎◌, ◌<◌, ◌≤◌, true, false, List, [], ◌∷◌, ◌++◌, length, Option, Some, None, Result, Ok, Err, refl, sym, ap, subst, ◌∙◌, append_assoc, append-nil, inl, inr, arith}
 use Rattle.std.specs.Prelude.{IfSome, IfOk, IfErr, IsErr, IsOkUnless}
 use Rattle.std.proofs.lemmas.List.{length-append}
 use Rattle.std.specs.Io.KnownBytes.{prepend_known, IsAtEnd}
@@ -10,8 +10,8 @@ use Rattle.pbm_reader.specs.declared.fault.PageFault.{PageFault}
 use Rattle.pbm_reader.specs.declared.fault.PageFault.TheVariants as faults
 use Rattle.pbm_reader.specs.declared.form.Form.{Form}
 use Rattle.pbm_reader.specs.declared.form.Form.TheVariants.{Plain, Raw}
-use Rattle.packed_rows.specs.Page.{Page, IsPageSize, row_len}
-use Rattle.pbm_reader.specs.Spelling.{IsHeader, IsRaster, MayFollow, SpellsRows, IsPage, pixels_page, raster_page, Spells}
+use Rattle.packed_rows.specs.Page.{Page, IsPageSize}
+use Rattle.pbm_reader.specs.Spelling.{IsHeader, IsRaster, MayFollow, SpellsRows, IsPage, Spells}
 use Rattle.pbm_reader.specs.Fault.{IsFrontOf, HasPageHeader, HasFault, IsTruncated, IsPixelFault, IsTrailing, IsInputTooLong}
 use Rattle.pbm_reader.specs.Given.{AfterRows}
 use Rattle.pbm_reader.specs.Raster.{RasterFails, TookRaster}

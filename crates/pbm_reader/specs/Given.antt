@@ -11,10 +11,12 @@ use Rattle.pbm_reader.specs.Spelling.{IsHeader, SpellsTop}
 -- the sink that these first rows of the page make of a sink, one row after the other
 abbrev pub AfterRows : {Sink : Type 0} → (Sink → List ℕ → Sink → Type 0) → Page → ℕ → Sink → Sink → Type 0
 AfterRows {Sink} given page zero old new = new ≡ old
-AfterRows {Sink} given page (suc y) old new = (before : Sink) × (bits : List ℕ) × AfterRows given page y old before × IsRowOf page y bits × given before bits new
+AfterRows {Sink} given page (suc y) old new =
+    (before : Sink) × (bits : List ℕ) × AfterRows given page y old before × IsRowOf page y bits × given before bits new
 
 -- the sink that began with the page's size, and was given all of the page's rows
-pub record AfterPage {Sink : Type 0} (begun : Sink → ℕ → ℕ → Sink → Type 0) (given : Sink → List ℕ → Sink → Type 0) (page : Page) (old new : Sink) : Type 0 where
+pub record AfterPage {Sink : Type 0} (begun : Sink → ℕ → ℕ → Sink → Type 0)
+    (given : Sink → List ℕ → Sink → Type 0) (page : Page) (old new : Sink) : Type 0 where
   pub empty : Sink
   pub begins : begun old page.width page.height empty
   pub rows : AfterRows given page page.height empty new
@@ -24,8 +26,8 @@ abbrev pub Stays : {Sink : Type 0} → (Sink → Sink → Type 0) → Sink → S
 Stays unchanged old new = (new ≡ old) ⊎ unchanged old new
 
 -- the sink was given so many top rows of the page, which these bytes spell whole; the last call may have been refused
-pub record IsGivenTop {Sink : Type 0} (given : Sink → List ℕ → Sink → Type 0) (unchanged : Sink → Sink → Type 0) (form : Form) (page : Page) (bytes : List ℕ)
-    (before after : Sink) : Type 0 where
+pub record IsGivenTop {Sink : Type 0} (given : Sink → List ℕ → Sink → Type 0) (unchanged : Sink → Sink → Type 0)
+    (form : Form) (page : Page) (bytes : List ℕ) (before after : Sink) : Type 0 where
   pub count : ℕ
   pub few : count ≤ page.height
   pub spelled : SpellsTop form count page bytes
@@ -45,8 +47,8 @@ StandsBehind len fault = ⊥
 
 -- the sink that began with the size in the header, which a page can have, and was given top rows: what was taken begins with the header and
 -- the bytes of these rows, and the fault stands behind them
-pub record AfterTopRows {Sink : Type 0} (begun : Sink → ℕ → ℕ → Sink → Type 0) (given : Sink → List ℕ → Sink → Type 0) (unchanged : Sink → Sink → Type 0)
-    (old new : SourceView) (before after : Sink) (fault : PageFault) : Type 0 where
+pub record AfterTopRows {Sink : Type 0} (begun : Sink → ℕ → ℕ → Sink → Type 0) (given : Sink → List ℕ → Sink → Type 0)
+    (unchanged : Sink → Sink → Type 0) (old new : SourceView) (before after : Sink) (fault : PageFault) : Type 0 where
   pub form : Form
   pub page : Page
   pub header : List ℕ

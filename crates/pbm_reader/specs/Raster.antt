@@ -54,9 +54,10 @@ RasterFails old new form width height start faults.ReadFault =
 RasterFails old new form width height start faults.Memory = ⊤
 RasterFails old new form width height start fault = ⊥
 
--- the sink was given top rows of a page of this size, which the bytes that were taken from this offset on spell whole, and the fault stands behind them
-pub record GivenTopRows {Sink : Type 0} (given : Sink → List ℕ → Sink → Type 0) (unchanged : Sink → Sink → Type 0) (form : Form) (width height start : ℕ)
-    (old new : SourceView) (before after : Sink) (fault : PageFault) : Type 0 where
+-- the sink was given top rows of a page of this size, which the bytes that were taken from this offset on spell whole, and the fault
+-- stands behind them
+pub record GivenTopRows {Sink : Type 0} (given : Sink → List ℕ → Sink → Type 0) (unchanged : Sink → Sink → Type 0)
+    (form : Form) (width height start : ℕ) (old new : SourceView) (before after : Sink) (fault : PageFault) : Type 0 where
   pub page : Page
   pub raster : List ℕ
   pub rest : List ℕ

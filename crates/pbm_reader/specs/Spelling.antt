@@ -1,5 +1,6 @@
 -- What bytes spell a page: Netpbm's PBM with its comments, in its plain and in its raw form.
-use Rattle.std.specs.Prelude.{◌≡◌, ◌≤◌, ◌<◌, ◌⊎◌, ℕ, ◌+◌, ◌-◌, ◌*◌, Bool, ◌&&◌, ◌||◌, ◌==◌, IsTrue, IsFalse, nat_le, List, [], ◌∷◌, ◌++◌, length, drop, slice_index, nat_eq, codes}
+use Rattle.std.specs.Prelude.{◌≡◌, ◌≤◌, ◌<◌, ◌⊎◌, ℕ, ◌+◌, ◌-◌, ◌*◌, Bool, ◌&&◌, ◌||◌, ◌==◌}
+use Rattle.std.specs.Prelude.{IsTrue, IsFalse, nat_le, List, [], ◌∷◌, ◌++◌, length, drop, slice_index, nat_eq, codes}
 use Rattle.std.specs.List.{concat}
 use Rattle.pbm_reader.specs.declared.form.Form.{Form}
 use Rattle.pbm_reader.specs.declared.form.Form.TheVariants.{Plain, Raw}
@@ -121,7 +122,8 @@ MayFollow Raw (byte ∷ bytes) = ⊥
 -- the bytes are so many rows of the page from its top; the rows under them are white
 abbrev pub SpellsTop : Form → ℕ → Page → List ℕ → Type 0
 SpellsTop Plain count page bytes =
-    (pixels : List ℕ) × (length pixels ≡ count * page.width) × SpellsPixels pixels bytes × (page ≡ pixels_page page.width page.height pixels)
+    (pixels : List ℕ) × (length pixels ≡ count * page.width) × SpellsPixels pixels bytes
+    × (page ≡ pixels_page page.width page.height pixels)
 SpellsTop Raw count page bytes = (length bytes ≡ count * row_len page.width) × (page ≡ raster_page page.width page.height bytes)
 
 -- the raster's rows are those of the page

@@ -4,7 +4,9 @@ ghost use Rattle.std.specs.Prelude.{◌≡◌, ◌-◌, ◌<◌, ◌≤◌};
 mod judge;
 mod spaces;
 
-use crate::{PageFault, RowSink, Size, each_input_is_judged, equal_pictures_are_one_page, read_page};
+use crate::{
+    PageFault, RowSink, Size, each_input_is_judged, equal_pictures_are_one_page, read_page,
+};
 use judge::judged;
 use layout_limits::OutOfMemory;
 use layout_outside::MemSource;
@@ -249,6 +251,51 @@ fn faults_of_headers_and_rasters_have_their_places(rt: HostRuntime) -> Result<()
 }
 
 #[test]
+fn no_read_is_made_behind_a_decided_fault(rt: HostRuntime) -> Result<(), Fail> {
+    // The front of an input that goes on with spaces, its length, the most bytes of a read, and the read that decides the fault.
+    let cases: [(&[u8], u64, usize, PageFault, u64); 9] = [
+        (b"Q", u64::MAX, 1, PageFault::Magic { at: 0 }, 1),
+        (b"P4 x", u64::MAX, 1, PageFault::Header { at: 3 }, 4),
+        (b"P4", u64::MAX, 1, PageFault::HeaderTooLong, 65_537),
+        (b"P4 0 1", u64::MAX, 1, PageFault::ZeroSize, 7),
+        (
+            b"P4 8193 1",
+            u64::MAX,
+            1,
+            PageFault::TooLarge {
+                width: 8193,
+                height: 1,
+            },
+            10,
+        ),
+        (b"P4 8 2\n\0", 8, 1, PageFault::Truncated { at: 8 }, 9),
+        (b"P1 2 1\n0x", u64::MAX, 1, PageFault::Pixel { at: 8 }, 9),
+        (
+            b"P4 8 1\n\0",
+            u64::MAX,
+            1,
+            PageFault::Trailing { at: 8 },
+            9,
+        ),
+        (
+            b"P1 1 1\n0",
+            u64::MAX,
+            usize::MAX,
+            PageFault::InputTooLong,
+            8_193,
+        ),
+    ];
+    for (front, len, piece, fault, reads) in cases {
+        let mut src = Spaces::new(front.to_vec(rt.alloc())?, len, piece);
+        let mut rows = Rows::new(rt.alloc(), u16::MAX);
+        let result = read_page(rt.alloc(), &mut src, &mut rows);
+        assert_eq!(rt; result, Err(fault), "{front:?}");
+        assert_eq!(rt; src.calls, reads, "{front:?}");
+    }
+    Ok(())
+}
+
+#[test]
 fn a_fault_leaves_the_top_rows(rt: HostRuntime) -> Result<(), Fail> {
     let cases: [(&[u8], u16, PageFault, &[u8]); 7] = [
         (
@@ -346,7 +393,7 @@ fn inputs_end_within_268435456_bytes(rt: HostRuntime) -> Result<(), Fail> {
         ),
     ];
     for (front, len, result) in cases {
-        let mut src = Spaces::new(front.to_vec(rt.alloc())?, len);
+        let mut src = Spaces::new(front.to_vec(rt.alloc())?, len, usize::MAX);
         let mut rows = Rows::new(rt.alloc(), u16::MAX);
         assert_eq!(rt;
             read_page(rt.alloc(), &mut src, &mut rows),

@@ -1,18 +1,15 @@
 //! Shared searches that are closed at once or after a turn by hand, and two threads on one frontier.
-ghost use Rattle.std.specs.Prelude.{◌≡◌, ◌∷◌, [], IfOk};
+ghost use Rattle.std.specs.Prelude.{◌≡◌, [], IfOk};
 ghost use Rattle.std.specs.Thread.{IsSync};
-ghost use Rattle.std.specs.List.Sorted.{IsPermutation};
-ghost use Rattle.box_search.specs.Leasing.{entry_of};
 ghost use Rattle.box_search.specs.Search.{IsGreatestKey};
 ghost use Rattle.frontier_turn.specs.Callers.{IsOwn};
 
 use super::{BELOW, RIGHT, chance_numbers};
 use crate::{Table, take_lease, work, work_off};
-use box_search::{Alone, Lease, Searcher, Space, Take};
+use box_search::{Alone, Searcher, Space, Take};
 use frontier_turn::{Closed, Pass, Shared};
 use layout_limits::OutOfMemory;
 use std::alloc::Global;
-use std::process::Abort;
 use std::sync::Wait;
 use std::test::Fail;
 use std::thread::{Threads, join};
@@ -40,7 +37,14 @@ fn lease_ends_or_goes_back(rt: HostRuntime) -> Result<(), Fail> {
     let keys = Table::new(&[RIGHT, BELOW]);
     let root = keys.root(alloc)?;
     let (shared, pass) = Shared::start(alloc, &keys, root)?;
-    let (both, pass) = lease_at(&rt, &shared, pass, (0, 2));
+    let (take, pass) = take_lease(&rt, &shared, pass);
+    let Take::Leased(both) = take else {
+        panic!(rt; "nothing was leased");
+    };
+    assert_eq!(rt;
+        (both.number, both.node.shape.a0, both.node.shape.a1),
+        (0, 0, 2)
+    );
     let (ended, pass) = work_off(&rt, alloc, &keys, &shared, pass, both);
     let waiting = if ended { 2 } else { 1 };
     let closed = shared.close(pass);
@@ -51,38 +55,14 @@ fn lease_ends_or_goes_back(rt: HostRuntime) -> Result<(), Fail> {
     Ok(())
 }
 
-/// Leases the node of these places.
-fn lease_at<S: Space, R: Abort + Wait>(
-    rt: &R,
-    shared: &Shared<'_, S>,
-    pass: Pass<S>,
-    places: (i32, i32),
-) -> (Lease<S::Work>, Pass<S>)
-    requires own { IsOwn shared.now pass }
-    requires unnamed { pass.view.rest.leases ≡ [] }
-    ensures own { IsOwn shared.now result.1 }
-    ensures parts { result.1.view.rest.parts ≡ pass.view.rest.parts }
-    ensures named { IsPermutation result.1.view.rest.leases (entry_of result.0 ∷ []) }
-    ensures fit { S.fits shared.now.problem result.0.node }
-{
-    let (take, pass) = take_lease(rt, shared, pass);
-    match take {
-        Take::Leased(lease) => {
-            assert_eq!(rt; lease.number, 0);
-            assert_eq!(rt; (lease.node.shape.a0, lease.node.shape.a1), places);
-            (lease, pass)
-        }
-        _ => panic!(rt; "nothing was leased"),
-    }
-}
-
 /// Searches with two threads.
 fn search_by_two<S: Space, R: Threads + Wait + Sync>(
     rt: &R,
     alloc: Global,
     space: &S,
 ) -> Result<Closed, OutOfMemory>
-    ensures greatest { IfOk result (λ closed. closed.waiting ≡ 0 → closed.leased ≡ 0 → IsGreatestKey (S.admits (S.problem space.now)) closed.word) }
+    ensures greatest { let p = S.problem space.now in
+        IfOk result (λ closed. closed.waiting ≡ 0 → closed.leased ≡ 0 → IsGreatestKey (S.admits p) closed.word) }
 {
     let root = space.root(alloc)?;
     let (search, mut first) = Shared::start(alloc, space, root)?;
