@@ -15,7 +15,7 @@ use Rattle.pbm_reader.specs.Given.{AfterRows, AfterFault, StandsBehind}
 use Rattle.pbm_reader.specs.Raster.{BytesFail, GivenTopRows, TookRaster}
 use Rattle.pbm_reader.specs.Plain.{PixelsFail}
 use Rattle.pbm_reader.specs.Tail.{TailFails}
-use Rattle.pbm_reader.specs.Left.{TookHeader}
+use Rattle.pbm_reader.specs.Header.{TookHeader}
 use Rattle.pbm_reader.proofs.Taken.{took_more, prepend_nothing, prepend_twice}
 
 -- ---- some bytes were taken, and a fault stands behind this offset
