@@ -1,5 +1,6 @@
 -- Places of one block are connected.
 use Rattle.std.proofs.Common.{◌≡◌, ℕ, zero, suc, ◌+◌, ◌-◌, ◌<◌, ◌≤◌, min, max, true, List, [], ◌∷◌, length, get_or, ap, ◌∙◌, arith}
+use Rattle.std.proofs.lemmas.Bool.{lt-ltb}
 use Rattle.std.proofs.lemmas.Bool.Decides.{nat_tests}
 use Rattle.std.proofs.lemmas.List.Folds.{list_any_at}
 use Rattle.components.specs.declared.place.Place.{Place}
@@ -36,7 +37,8 @@ black_inside : (blocks : List Block) (i : ℕ) (d : Block) (p : Place) → i < l
 black_inside blocks i d p below inside = record {
   in_row = inside.in_row;
   in_column = inside.in_column;
-  black = list_any_at (has_place p.x p.y) blocks i d below (has_inside (get_or blocks i d) p inside.left inside.right inside.top inside.foot);
+  black = rw (lt-ltb p.x 2480 inside.in_row, lt-ltb p.y 3508 inside.in_column)
+      (list_any_at (has_place p.x p.y) blocks i d below (has_inside (get_or blocks i d) p inside.left inside.right inside.top inside.foot));
 }
 
 -- the neighbour of a number, or the number itself, that is nearest to another

@@ -1,5 +1,5 @@
 -- Kept places are not connected, so they lie in different blocks.
-use Rattle.std.proofs.Common.{◌≡◌, ◌≢◌, ℕ, zero, suc, ◌<◌, ◌≤◌, Bool, true, false, cond, eqb, ◌||◌, List, [], ◌∷◌, length, map, get_or, refl, ap, sym, subst, ◌∙◌, arith}
+use Rattle.std.proofs.Common.{◌≡◌, ◌≢◌, ℕ, zero, suc, ◌<◌, ◌≤◌, Bool, true, false, cond, eqb, ◌&&◌, ◌||◌, List, [], ◌∷◌, length, map, get_or, refl, ap, sym, subst, ◌∙◌, arith}
 use Rattle.std.specs.List.{list_any, AllZip, AllPairs, IsDistinct}
 use Rattle.std.proofs.lemmas.Bool.Decides.{nat_tests}
 use Rattle.std.proofs.lemmas.List.{get_or-map, length-map, length-append}
@@ -8,7 +8,7 @@ use Rattle.std.proofs.lemmas.List.Folds.{Any-from_list_any}
 use Rattle.std.proofs.lemmas.Slice.Zip.{AllZip-long}
 use Rattle.std.proofs.lemmas.Map.Keys.{IsDistinct-from_apart}
 use Rattle.std.proofs.lemmas.Map.Steps.{length-le_from_distinct_below}
-use Rattle.page_runs.specs.Page.{Page}
+use Rattle.packed_rows.specs.Page.{Page}
 use Rattle.components.specs.declared.place.Place.{Place}
 use Rattle.components.specs.Connected.{IsBlack, IsConnected}
 use Rattle.components.specs.Boxes.{IsKept}
@@ -49,6 +49,11 @@ is_found (block ∷ blocks) p d some = cases (is_found blocks p d) (has_place p.
           has = ap (λ (k : ℕ). has_place p.x p.y (get_or (block ∷ blocks) k d)) later ∙ rest.has;
         }
 
+-- a black place of the page is on a block
+on_block : (on some : Bool) → (on && some) ≡ true → some ≡ true
+on_block true some black = black
+on_block false some black = cc
+
 -- places of which each is black, and no two are connected, are at most as many as the blocks
 module _ (blocks : List Block) (places : List Place)
     (black : (k : ℕ) (d : Place) → k < length places → IsBlack (page_of_blocks blocks) (get_or places k d))
@@ -60,7 +65,7 @@ module _ (blocks : List Block) (places : List Place)
   no_block = record { left = 0; right = 0; top = 0; foot = 0 }
 
   found_at : (k : ℕ) → k < length places → IsFound blocks (get_or places k corner) no_block
-  found_at k below = is_found blocks (get_or places k corner) no_block (black k corner below).black
+  found_at k below = is_found blocks (get_or places k corner) no_block (on_block _ _ (black k corner below).black)
 
   number_at : (k d : ℕ) → k < length places → get_or (map (block_of blocks) places) k d ≡ block_of blocks (get_or places k corner)
   number_at k d below = get_or-map (block_of blocks) places k corner d below

@@ -3,11 +3,11 @@ use Rattle.std.proofs.Common.{◌≡◌, ℕ, suc, ◌+◌, ◌*◌, ◌/◌, �
 use Rattle.std.proofs.lemmas.List.{append-nil}
 use Rattle.std.proofs.lemmas.List.FromFn.{map-range_with_len_more}
 use Rattle.made_page.specs.declared.block.Block.{Block}
-use Rattle.made_page.specs.Draws.{next_state, state_after, draw}
+use Rattle.made_page.specs.Draws.{state_behind, state_after, draw}
 use Rattle.made_page.specs.Blocks.{glyph, speck, glyphs_of, specks_of}
 
-pub next_is : (state : ℕ) → (state * 6364136223846793005 % 18446744073709551616 + 1442695040888963407) % 18446744073709551616 ≡ next_state state
-unfolding next_state
+pub next_is : (state : ℕ) → (state * 6364136223846793005 % 18446744073709551616 + 1442695040888963407) % 18446744073709551616 ≡ state_behind state
+unfolding state_behind
 next_is state = omega arith
 
 pub no_draw : (seed : ℕ) → seed ≡ state_after seed 0
@@ -15,20 +15,20 @@ unfolding state_after
 no_draw seed = refl
 
 -- the state after one more draw, and what is drawn
-pub one_draw : (seed draws state : ℕ) → state ≡ state_after seed draws → next_state state ≡ state_after seed (draws + 1)
+pub one_draw : (seed draws state : ℕ) → state ≡ state_after seed draws → state_behind state ≡ state_after seed (draws + 1)
 unfolding state_after
 one_draw seed draws state at =
     let e : suc draws ≡ draws + 1 = omega arith in
-    ap next_state at ∙ ap (state_after seed) e
+    ap state_behind at ∙ ap (state_after seed) e
 
-pub drawn : (seed number state : ℕ) → state ≡ state_after seed number → next_state state / 2 ^ 33 ≡ draw seed number
+pub drawn : (seed number state : ℕ) → state ≡ state_after seed number → state_behind state / 2 ^ 33 ≡ draw seed number
 unfolding draw
 drawn seed number state at = ap (λ (s : ℕ). s / 2 ^ 33) (one_draw seed number state at)
 
-pub two_draws : (seed number state : ℕ) → state ≡ state_after seed (2 * number) → next_state (next_state state) ≡ state_after seed (2 * (number + 1))
+pub two_draws : (seed number state : ℕ) → state ≡ state_after seed (2 * number) → state_behind (state_behind state) ≡ state_after seed (2 * (number + 1))
 two_draws seed number state at =
     let e : 2 * number + 1 + 1 ≡ 2 * (number + 1) = omega arith in
-    one_draw seed (2 * number + 1) (next_state state) (one_draw seed (2 * number) state at) ∙ ap (state_after seed) e
+    one_draw seed (2 * number + 1) (state_behind state) (one_draw seed (2 * number) state at) ∙ ap (state_after seed) e
 
 -- a list that ends with the first blocks, before the first, and with one more
 pub no_glyph : (seed : ℕ) (blocks : List Block) → blocks ≡ blocks ++ glyphs_of seed 0

@@ -1,26 +1,20 @@
 -- A page that gets its painted rows.
-use Rattle.std.proofs.Common.{◌≡◌, ℕ, suc, ◌+◌, Bool, cond, ◌&&◌, List, length, inl, inr, ap, sym, subst, ◌∙◌, arith}
+use Rattle.std.proofs.Common.{◌≡◌, ℕ, suc, ◌+◌, ◌<◌, Bool, cond, ◌&&◌, List, length, inl, inr, ap, sym, subst, ◌∙◌, arith}
 use Rattle.std.specs.List.{list_any}
-use Rattle.std.proofs.lemmas.Bool.{cases_lt, lt-ltb, le-ltb}
-use Rattle.page_runs.specs.Page.{Page, pixel, IsRowOf}
+use Rattle.packed_rows.specs.Page.{Page, row_len, pixel, IsRowOf}
+use Rattle.packed_rows.specs.PageLaws.{row_of_page, white_past}
 use Rattle.page_runs.specs.Given.{AfterRows}
 use Rattle.page_runs.specs.Packed.{Packed, IsWhole, Holds}
 use Rattle.page_runs.specs.Rows.{Begun, Given, GivenPageIsHeld}
 use Rattle.made_page.specs.declared.block.Block.{Block}
 use Rattle.made_page.specs.Made.{has_place, page_of_blocks}
-use Rattle.made_page.proofs.Pixels.{row_end}
+use Rattle.made_page.specs.declared.painting.TheConstants.{HEIGHT, WIDTH}
 
 -- a painted row is that of the page
-pub row_of_page : (blocks : List Block) (y : ℕ) (bits : List ℕ) → length bits ≡ 310
+pub painted_row : (blocks : List Block) (y : ℕ) (bits : List ℕ) → y < HEIGHT → length bits ≡ row_len WIDTH
     → ((k : ℕ) → pixel bits k ≡ cond (list_any (has_place k y) blocks) 1 0) → IsRowOf (page_of_blocks blocks) y bits
-row_of_page blocks y bits len painted = record {
-  len = len;
-  pixels = λ x.
-      elim (cases_lt x 2480) [
-        | inl inside ↦ painted x ∙ ap (λ (t : Bool). cond (t && list_any (has_place x y) blocks) 1 0) (sym (lt-ltb x 2480 inside))
-        | inr past ↦ row_end bits x (omega (arith, len, past)) ∙ ap (λ (t : Bool). cond (t && list_any (has_place x y) blocks) 1 0) (sym (le-ltb x 2480 past))
-      ];
-}
+painted_row blocks y bits below len painted =
+    row_of_page WIDTH HEIGHT (λ x v. list_any (has_place x v) blocks) y bits (record { len = len; padding = λ x past. white_past bits x (omega (arith, len, past)) }) below (λ x in_row. painted x)
 
 -- one more row was given
 pub row_more : (page : Page) (y : ℕ) (first before after : Packed) (bits : List ℕ) → AfterRows Given page y first before → IsRowOf page y bits → Given before bits after

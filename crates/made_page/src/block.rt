@@ -4,8 +4,12 @@
 /// `top <= y < foot`.
 #[derive(Clone, Copy, Debug, PartialEq, Eq)]
 pub struct Block {
+    /// The first column that is black.
     pub left: u16,
+    /// The column behind the last that is black.
     pub right: u16,
+    /// The first row that is black.
     pub top: u16,
+    /// The row under the last that is black.
     pub foot: u16,
 }

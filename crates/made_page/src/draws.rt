@@ -1,23 +1,27 @@
 //! The numbers that are drawn from a seed.
 ghost use Rattle.std.specs.Prelude.{◌≡◌, ◌/◌, ◌^◌};
-ghost use Rattle.made_page.specs.Draws.{next_state};
+ghost use Rattle.made_page.specs.Draws.{state_behind};
 
-/// A linear congruential generator of 64 bits, with Knuth's multiplier. Its state begins as the seed.
+/// Knuth's multiplier, of MMIX.
+const MULTIPLIER: u64 = 6_364_136_223_846_793_005;
+
+/// What is added, of MMIX too.
+const INCREMENT: u64 = 1_442_695_040_888_963_407;
+
+/// A linear congruential generator of 64 bits, with Knuth's numbers. Its state begins as the seed.
 #[derive(Drop)]
 pub struct Draws {
+    /// The number that was made last, or the seed.
     pub state: u64,
 }
 
 impl Draws {
     /// The next number: the upper 31 bits of the next state.
     pub fn draw(&mut self) -> u64
-        ensures state { self.new.state ≡ next_state self.old.state }
-        ensures value { result ≡ next_state self.old.state / 2 ^ 33 }
+        ensures state { self.new.state ≡ state_behind self.old.state }
+        ensures value { result ≡ state_behind self.old.state / 2 ^ 33 }
     {
-        self.state = self
-            .state
-            .wrapping_mul(6_364_136_223_846_793_005)
-            .wrapping_add(1_442_695_040_888_963_407);
+        self.state = self.state.wrapping_mul(MULTIPLIER).wrapping_add(INCREMENT);
         self.state >> 33
     }
 }

@@ -12,4 +12,4 @@ mod tests;
 
 pub use few::made_page_has_few_components;
 pub use made::make_page;
-pub use page_runs::{OutOfMemory, RunPage};
+pub use page_runs::RunPage;

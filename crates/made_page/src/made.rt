@@ -5,7 +5,8 @@ ghost use Rattle.made_page.specs.Made.{made_page};
 
 use crate::blocks::blocks_of;
 use crate::painting::paint;
-use page_runs::{OutOfMemory, RunPage};
+use layout_limits::OutOfMemory;
+use page_runs::RunPage;
 use std::alloc::Global;
 
 /// The page of a seed, 2480 wide and 3508 high: 44 rows of glyphs, each a solid block from 24 to 32

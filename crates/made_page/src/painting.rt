@@ -1,12 +1,14 @@
 //! Blocks are painted on a white page.
-ghost use Rattle.std.specs.Prelude.{◌≡◌, ◌≢◌, ◌≤◌, ◌<◌, ◌*◌, ◌/◌, ℕ, All, length, OnOk, IfOk, nat_eq, nat_lt, nat_le, ◌&&◌, if◌then◌else◌};
+ghost use Rattle.std.specs.Prelude.{◌≡◌, ◌≢◌, ◌≤◌, ◌<◌, ◌*◌, ◌/◌, ℕ, All, length, OnOk, IfOk, nat_lt, nat_le, ◌&&◌, if◌then◌else◌};
 ghost use Rattle.std.specs.List.{list_any};
-ghost use Rattle.page_runs.specs.Page.{pixel};
+ghost use Rattle.packed_rows.specs.Page.{pixel};
 ghost use Rattle.page_runs.specs.Packed.{Holds, IsWhole};
 ghost use Rattle.made_page.specs.Made.{has_place, page_of_blocks};
 
 use crate::block::Block;
-use page_runs::{OutOfMemory, RowSink, RunPage, given_page_is_held};
+use layout_limits::OutOfMemory;
+use packed_rows::{set_pixel, whiten};
+use page_runs::{RowSink, RunPage, given_page_is_held};
 use std::alloc::Global;
 
 /// The width of a made page in pixels.
@@ -16,16 +18,7 @@ const WIDTH: u16 = 2480;
 const HEIGHT: u16 = 3508;
 
 /// The bytes of a packed row.
-const ROW_LEN: usize = 310;
-
-/// Makes a pixel of a packed row black.
-fn put_pixel(bits: &mut [u8], x: u16)
-    requires { x / 8 < length bits.old }
-    ensures len { length bits.new ≡ length bits.old }
-    ensures pixels { (k : ℕ) → pixel bits.new k ≡ (if nat_eq k x then 1 else pixel bits.old k) }
-{
-    bits[usize::from(x / 8)] |= 1 << (7 - x % 8);
-}
+const ROW_LEN: usize = (WIDTH as usize + 7) / 8;
 
 /// Makes the pixels of a packed row black from a column to the one before another.
 fn put_stretch(bits: &mut [u8], left: u16, right: u16)
@@ -34,7 +27,7 @@ fn put_stretch(bits: &mut [u8], left: u16, right: u16)
     ensures pixels { (k : ℕ) → pixel bits.new k ≡ (if nat_le left k && nat_lt k right then 1 else pixel bits.old k) }
 {
     for x in left..right {
-        put_pixel(bits, x);
+        set_pixel(bits, x);
     }
 }
 
@@ -55,7 +48,7 @@ fn put_row(bits: &mut [u8], blocks: &[Block], y: u16)
     ensures len { length bits.new ≡ length bits.old }
     ensures pixels { (k : ℕ) → pixel bits.new k ≡ (if list_any (has_place k y) blocks.now then 1 else 0) }
 {
-    bits.fill(0);
+    whiten(bits);
     for block in blocks {
         put_block(bits, block, y);
     }
@@ -63,7 +56,7 @@ fn put_row(bits: &mut [u8], blocks: &[Block], y: u16)
 
 /// The page of the blocks.
 pub fn paint(alloc: Global, blocks: &[Block]) -> Result<RunPage, OutOfMemory>
-    requires { All (λ block. block.right ≤ 2480) blocks.now }
+    requires { All (λ block. block.right ≤ WIDTH) blocks.now }
     ensures whole { IfOk result IsWhole }
     ensures held { IfOk result (λ page. Holds page (page_of_blocks blocks.now)) }
 {

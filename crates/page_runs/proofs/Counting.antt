@@ -5,7 +5,7 @@ use Rattle.std.specs.List.{range_with_len}
 use Rattle.std.proofs.lemmas.Bool.{cases_order}
 use Rattle.std.proofs.lemmas.Bool.Decides.{nat_tests}
 use Rattle.std.proofs.lemmas.List.Sums.{sum_by_push}
-use Rattle.pbm_reader.specs.Page.{Page, pixel}
+use Rattle.packed_rows.specs.Page.{Page, pixel}
 use Rattle.page_runs.specs.Packed.{Packed, page_of, rows_of, Holds}
 use Rattle.page_runs.specs.Rows.{Given}
 use Rattle.page_runs.specs.Black.{black_in, black_in_row, black_of}
@@ -72,7 +72,7 @@ next_white : (old : Packed) (x : ℕ) → (page_of old).is_black x (rows_of old)
 unfolding page_of rows_of
 next_white old x =
     let past : ltb old.rows old.rows ≡ false = grind (arith, nat_tests) in
-    rw past (none (ltb x old.width))
+    rw past (none (ltb x old.width && ltb old.rows old.height))
   where
     none : (b : Bool) → (b && false) ≡ false
     none true = refl

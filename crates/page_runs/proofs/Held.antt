@@ -2,7 +2,7 @@
 use Rattle.std.proofs.Common.{◌≡◌, ℕ, zero, suc, ◌<◌, Bool, true, false, cond, eqb, ◌&&◌, List, inl, inr, refl, sym, ap, subst, ◌∙◌, arith}
 use Rattle.std.proofs.lemmas.Bool.{lt-ltb, cases_order}
 use Rattle.std.proofs.lemmas.Bool.Decides.{nat_tests}
-use Rattle.pbm_reader.specs.Page.{Page, pixel, IsRowOf}
+use Rattle.packed_rows.specs.Page.{Page, pixel, IsRowOf}
 use Rattle.pbm_reader.specs.Given.{AfterRows}
 use Rattle.page_runs.specs.Packed.{Packed, page_of, rows_of}
 use Rattle.page_runs.specs.Rows.{Begun, Given, GivenPageIsHeld}

@@ -4,7 +4,8 @@ use Rattle.std.specs.Int.RustNames.{count_ones}
 use Rattle.std.specs.Int.{bit_at}
 use Rattle.std.proofs.lemmas.Nat.{ones_cat}
 use Rattle.std.proofs.lemmas.Nat.Bits.{bit_at-suc, bit_at_lowest, bit_at-lt}
-use Rattle.pbm_reader.specs.Page.{pixel, IsPackedRow}
+use Rattle.packed_rows.specs.Page.{pixel, IsPackedRow}
+use Rattle.packed_rows.specs.PageLaws.{black_bit}
 use Rattle.page_runs.specs.Black.{black_in}
 use Rattle.page_runs.proofs.Counting.{black_more}
 
@@ -42,11 +43,6 @@ ones_of (suc k) n lt =
 
 -- ---- the pixels of a byte
 
-test_is : (b : ℕ) → b < 2 → cond (eqb b 1) 1 0 ≡ b
-test_is zero lt = refl
-test_is (suc zero) lt = refl
-test_is (suc (suc n)) lt = absurd (omega arith)
-
 -- one more pixel, the j-th of the byte i from its high bit
 one_more : (bits : List ℕ) (i j : ℕ) → j < 8 → black_in (8 * i + j + 1) bits ≡ black_in (8 * i + j) bits + bit_at (get_or bits i 0) (7 - j)
 one_more bits i j lt =
@@ -56,7 +52,7 @@ one_more bits i j lt =
     ap (λ (k : ℕ). bit_at (get_or bits k 0) (7 - (8 * i + j) % 8)) byte ∙ ap (λ (k : ℕ). bit_at (get_or bits i 0) (7 - k)) place in
     black_more bits (8 * i + j)
     ∙ ap (λ (b : ℕ). black_in (8 * i + j) bits + cond (eqb b 1) 1 0) here
-    ∙ ap (λ (b : ℕ). black_in (8 * i + j) bits + b) (test_is (bit_at (get_or bits i 0) (7 - j)) (bit_at-lt (get_or bits i 0) (7 - j)))
+    ∙ ap (λ (b : ℕ). black_in (8 * i + j) bits + b) (sym (black_bit (bit_at (get_or bits i 0) (7 - j)) (bit_at-lt (get_or bits i 0) (7 - j))))
 
 -- the sum of this many bits from the high bit of a byte
 abbrev bits_down : ℕ → ℕ → ℕ

@@ -5,7 +5,7 @@ use Rattle.std.proofs.lemmas.Bool.{lt-ltb, le-ltb, cases_lt, cases_order}
 use Rattle.std.proofs.lemmas.Bool.Decides.{nat_tests}
 use Rattle.std.proofs.lemmas.List.{get_or-append_right, get_or_append_left, length-append}
 use Rattle.std.proofs.Math.Nat.{mul-le-mul_right}
-use Rattle.pbm_reader.specs.Page.{row_len, pixel, IsPackedRow, IsPageSize}
+use Rattle.packed_rows.specs.Page.{row_len, pixel, IsPackedRow, IsPageSize}
 use Rattle.page_runs.specs.Packed.{Packed, page_of, rows_of}
 use Rattle.page_runs.specs.Rows.{Given}
 use Rattle.page_runs.specs.Black.{IsPacked, black_in}
@@ -35,11 +35,11 @@ same_false true = refl
 same_false false = refl
 
 -- the test of a pixel after a row was added
-pub row_added : (bytes bits : List ℕ) (width rows x y : ℕ) → length bytes ≡ rows * row_len width
+pub row_added : (bytes bits : List ℕ) (width height rows x y : ℕ) → rows < height → length bytes ≡ rows * row_len width
     → ((k : ℕ) → width ≤ k → pixel bits k ≡ 0)
-    → (ltb x width && (ltb y (rows + 1) && eqb (bit_at (get_or (bytes ++ bits) (y * row_len width + x / 8) 0) (7 - x % 8)) 1))
-    ≡ cond (eqb y rows) (eqb (pixel bits x) 1) (ltb x width && (ltb y rows && eqb (bit_at (get_or bytes (y * row_len width + x / 8) 0) (7 - x % 8)) 1))
-row_added bytes bits width rows x y len padding =
+    → ((ltb x width && ltb y height) && (ltb y (rows + 1) && eqb (bit_at (get_or (bytes ++ bits) (y * row_len width + x / 8) 0) (7 - x % 8)) 1))
+    ≡ cond (eqb y rows) (eqb (pixel bits x) 1) ((ltb x width && ltb y height) && (ltb y rows && eqb (bit_at (get_or bytes (y * row_len width + x / 8) 0) (7 - x % 8)) 1))
+row_added bytes bits width height rows x y room len padding =
     elim (cases_lt x width) [
       | inr wide ↦
           let out : ltb x width ≡ false = le-ltb x width wide in
@@ -51,16 +51,18 @@ row_added bytes bits width rows x y len padding =
             | inl same ↦
                 let e : eqb y rows ≡ true = grind (arith, nat_tests) in
                 let l : ltb y (rows + 1) ≡ true = grind (arith, nat_tests) in
+                let tall : ltb y height ≡ true = lt-ltb y height (omega (arith, same, room)) in
                 let at : get_or (bytes ++ bits) (y * row_len width + x / 8) 0 ≡ get_or bits (x / 8) 0 = subst (λ (r : ℕ). get_or (bytes ++ bits) (r * row_len width + x / 8) 0 ≡ get_or bits (x / 8) 0) (sym same) (new_byte bytes bits width rows x len) in
-                rw (within, e, l, at) refl
+                rw (within, e, l, tall, at) refl
             | inr other ↦
                 elim other [
                   | inl there ↦
                       let e : eqb y rows ≡ false = grind (arith, nat_tests) in
                       let l : ltb y (rows + 1) ≡ true = grind (arith, nat_tests) in
                       let m : ltb y rows ≡ true = lt-ltb y rows there in
+                      let tall : ltb y height ≡ true = lt-ltb y height (omega (arith, there, room)) in
                       let at = old_byte bytes bits width rows x y len in_row there in
-                      rw (within, e, l, m, at) refl
+                      rw (within, e, l, m, tall, at) refl
                   | inr past ↦
                       let e : eqb y rows ≡ false = grind (arith, nat_tests) in
                       let l : ltb y (rows + 1) ≡ false = grind (arith, nat_tests) in
@@ -71,14 +73,14 @@ row_added bytes bits width rows x y len padding =
     ]
 
 -- the page that got one more row
-pub given_more : (old : Packed) (bits : List ℕ) → length old.bytes ≡ old.rows * row_len old.width → ((k : ℕ) → old.width ≤ k → pixel bits k ≡ 0)
+pub given_more : (old : Packed) (bits : List ℕ) → rows_of old < (page_of old).height → length old.bytes ≡ old.rows * row_len old.width → ((k : ℕ) → old.width ≤ k → pixel bits k ≡ 0)
     → Given old bits (record { width = old.width; height = old.height; rows = old.rows + 1; bytes = old.bytes ++ bits })
 unfolding page_of rows_of
-given_more old bits len padding = record {
+given_more old bits room len padding = record {
   width_is = refl;
   height_is = refl;
   rows_is = refl;
-  blacks = λ x y. row_added old.bytes bits old.width old.rows x y len padding;
+  blacks = λ x y. row_added old.bytes bits old.width old.height old.rows x y (omega (arith, room)) len padding;
 }
 
 pub padding_of : (old : Packed) (bits : List ℕ) → IsPackedRow (page_of old).width bits → (k : ℕ) → old.width ≤ k → pixel bits k ≡ 0
@@ -91,7 +93,7 @@ pub pushed : (old : Packed) (black : ℕ) (bits : List ℕ) (more : ℕ) → IsP
     → IsPacked (record { width = old.width; height = old.height; rows = old.rows + 1; bytes = old.bytes ++ bits }) (black + more)
 unfolding page_of rows_of
 pushed old black bits more was room row value narrow =
-    let given = given_more old bits was.len row.padding in
+    let given = given_more old bits room was.len row.padding in
     let size : IsPageSize old.width old.height = was.size (omega (arith, room)) in
     record {
       unbegun = was.unbegun;
@@ -108,7 +110,7 @@ none_of false = refl
 
 no_row : (width height : ℕ) (bytes : List ℕ) (x y : ℕ) → (page_of (record { width = width; height = height; rows = 0; bytes = bytes })).is_black x y ≡ false
 unfolding page_of
-no_row width height bytes x y = let past : ltb y 0 ≡ false = grind (arith, nat_tests) in rw past (none_of (ltb x width))
+no_row width height bytes x y = let past : ltb y 0 ≡ false = grind (arith, nat_tests) in rw past (none_of (ltb x width && ltb y height))
 
 -- the page that was begun
 pub begun : (width height : ℕ) (bytes : List ℕ) → IsPageSize width height → bytes ≡ []

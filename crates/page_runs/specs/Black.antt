@@ -1,7 +1,8 @@
 -- The black pixels of a page.
 use Rattle.std.specs.Prelude.{◌≡◌, ◌<◌, ◌≤◌, ℕ, ◌*◌, List, length, sum_by, count_by, nat_eq}
 use Rattle.std.specs.List.{range_with_len}
-use Rattle.pbm_reader.specs.Page.{Page, pixel, row_len, IsPageSize}
+use Rattle.layout_limits.specs.declared.TheConstants.{MAX_SIDE}
+use Rattle.packed_rows.specs.Page.{Page, pixel, row_len, IsPageSize}
 use Rattle.page_runs.specs.Packed.{Packed, page_of}
 
 -- the black pixels of a row in packed bytes
@@ -23,4 +24,4 @@ pub record IsPacked (p : Packed) (black : ℕ) : Type 0 where
   pub few : p.rows ≤ p.height
   pub len : length p.bytes ≡ p.rows * row_len p.width
   pub counted : black ≡ black_of (page_of p)
-  pub bound : black ≤ 8192 * p.rows
+  pub bound : black ≤ MAX_SIDE * p.rows

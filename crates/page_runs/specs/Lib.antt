@@ -2,5 +2,5 @@
 pub mod Packed
 pub mod Black
 pub mod Rows
-pub use Rattle.pbm_reader.specs.Page
+pub use Rattle.packed_rows.specs.Page
 pub use Rattle.pbm_reader.specs.Given

@@ -1,7 +1,7 @@
 -- A page of which some first rows are there, as packed bytes.
 use Rattle.std.specs.Prelude.{◌≡◌, ◌<◌, ℕ, ◌+◌, ◌-◌, ◌*◌, ◌/◌, ◌%◌, ◌&&◌, List, length, slice_index, nat_eq, nat_lt, if◌then◌else◌}
 use Rattle.std.specs.Int.{bit_at}
-use Rattle.pbm_reader.specs.Page.{Page, row_len, pixel}
+use Rattle.packed_rows.specs.Page.{Page, page_with, row_len, pixel, HasPicture}
 
 -- what a page keeps: its size, how many rows are there from the top, and their bytes
 pub record Packed : Type 0 where
@@ -12,11 +12,8 @@ pub record Packed : Type 0 where
 
 -- the page, whose rows that are not there are white
 unfoldable pub page_of : Packed → Page
-page_of p = record {
-  width = p.width;
-  height = p.height;
-  is_black = λ x y. nat_lt x p.width && (nat_lt y p.rows && nat_eq (bit_at (slice_index p.bytes (y * row_len p.width + x / 8)) (7 - x % 8)) 1);
-}
+page_of p =
+    page_with p.width p.height (λ x y. nat_lt y p.rows && nat_eq (bit_at (slice_index p.bytes (y * row_len p.width + x / 8)) (7 - x % 8)) 1)
 
 -- how many rows are there
 unfoldable pub rows_of : Packed → ℕ
@@ -28,10 +25,8 @@ pub record IsWhole (p : Packed) : Type 0 where
   pub some : 0 < (page_of p).height
 
 -- the page of these rows has the size and the black places of this page
-pub record Holds (p : Packed) (page : Page) : Type 0 where
-  pub width_is : (page_of p).width ≡ page.width
-  pub height_is : (page_of p).height ≡ page.height
-  pub same : (x y : ℕ) → x < page.width → y < page.height → (page_of p).is_black x y ≡ page.is_black x y
+abbrev pub Holds : Packed → Page → Type 0
+Holds p page = HasPicture (page_of p) page
 
 -- the packed bytes have the row y of the page; nothing is said of the padding bits
 pub record HasRow (page : Page) (y : ℕ) (bits : List ℕ) : Type 0 where

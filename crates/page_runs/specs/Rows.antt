@@ -1,6 +1,6 @@
 -- What a page becomes that takes its rows.
 use Rattle.std.specs.Prelude.{◌≡◌, ℕ, ◌+◌, false, List, nat_eq, if◌then◌else◌}
-use Rattle.pbm_reader.specs.Page.{Page, pixel, IsPageSize}
+use Rattle.packed_rows.specs.Page.{Page, pixel, IsPageSize}
 use Rattle.pbm_reader.specs.Given.{AfterPage}
 use Rattle.page_runs.specs.Packed.{Packed, page_of, rows_of, IsWhole, Holds}
 
@@ -17,7 +17,8 @@ pub record Given (old : Packed) (bits : List ℕ) (new : Packed) : Type 0 where
   pub width_is : (page_of new).width ≡ (page_of old).width
   pub height_is : (page_of new).height ≡ (page_of old).height
   pub rows_is : rows_of new ≡ rows_of old + 1
-  pub blacks : (x y : ℕ) → (page_of new).is_black x y ≡ (if nat_eq y (rows_of old) then nat_eq (pixel bits x) 1 else (page_of old).is_black x y)
+  pub blacks : (x y : ℕ)
+      → (page_of new).is_black x y ≡ (if nat_eq y (rows_of old) then nat_eq (pixel bits x) 1 else (page_of old).is_black x y)
 
 -- what was given all rows of a page is whole, and holds that page
 abbrev pub GivenPageIsHeld : Type 0

@@ -1,6 +1,6 @@
 //! The number of black pixels of a packed row.
 ghost use Rattle.std.specs.Prelude.{◌≡◌, ◌≤◌};
-ghost use Rattle.pbm_reader.specs.Page.{IsPackedRow};
+ghost use Rattle.packed_rows.specs.Page.{IsPackedRow};
 ghost use Rattle.page_runs.specs.Black.{black_in};
 
 /// The black pixels of a row, whose padding bits are clear.

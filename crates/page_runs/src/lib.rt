@@ -6,5 +6,5 @@ mod run_page;
 #[cfg(test)]
 mod tests;
 
-pub use pbm_reader::{OutOfMemory, RowSink};
+pub use pbm_reader::RowSink;
 pub use run_page::{RunPage, given_page_is_held};

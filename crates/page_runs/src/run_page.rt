@@ -1,16 +1,18 @@
 //! A page whose rows come one by one from the top.
 ghost use Rattle.std.specs.Prelude.{◌≡◌, ◌<◌, ◌≤◌, ℕ, OnOk, OnErr, IsTrue, ◌↔◌};
-ghost use Rattle.pbm_reader.specs.Page.{Page, IsPackedRow, IsPageSize};
+ghost use Rattle.packed_rows.specs.Page.{Page, IsPackedRow, IsPageSize};
 ghost use Rattle.page_runs.specs.Packed.{HasRow, Holds, IsWhole, page_of, rows_of};
 ghost use Rattle.page_runs.specs.Black.{black_of};
 ghost use Rattle.page_runs.specs.Rows.{Given, GivenPageIsHeld};
 
 use crate::black::black_in;
-use pbm_reader::{OutOfMemory, RowSink};
+use layout_limits::OutOfMemory;
+use packed_rows::{pixel, row_len};
+use pbm_reader::RowSink;
 use std::alloc::Global;
 use std::marker::Model;
 
-/// A page of black and white pixels, at most 8192 wide, 8192 high and 33,554,432 pixels in all.
+/// A page of black and white pixels, at most `MAX_SIDE` wide and high, and `MAX_PIXELS` pixels in all.
 ///
 /// It takes the rows from the top, as packed bytes: eight pixels a byte, the high bit leftmost, 1
 /// for black, as in Netpbm's raw PBM. It is whole once all of its rows are there.
@@ -82,8 +84,7 @@ impl RunPage {
         requires in_column { y < (page_of self.now).height }
         ensures { result ≡ (page_of self.now).is_black x y }
     {
-        let at = usize::from(y) * ((usize::from(self.width) + 7) / 8) + usize::from(x) / 8;
-        (self.bytes[at] >> (7 - u32::from(x) % 8)) % 2 == 1
+        pixel(self.packed_row(y), x) == 1
     }
 
     /// The packed bytes of a row that is there; what the padding bits are is not said.
@@ -91,7 +92,7 @@ impl RunPage {
         requires { y < rows_of self.now }
         ensures { HasRow (page_of self.now) y result.now }
     {
-        let len = (usize::from(self.width) + 7) / 8;
+        let len = row_len(self.width);
         let at = usize::from(y) * len;
         &self.bytes[at..at + len]
     }

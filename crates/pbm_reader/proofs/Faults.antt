@@ -8,17 +8,17 @@ use Rattle.pbm_reader.specs.declared.form.Form.{Form}
 use Rattle.pbm_reader.specs.declared.form.Form.TheVariants.{Plain, Raw}
 use Rattle.pbm_reader.specs.declared.state.HeaderState.{HeaderState}
 use Rattle.pbm_reader.specs.declared.state.HeaderState.TheVariants.{Magic, Kind, Named, WidthGap, WidthComment, Width, HeightGap, HeightComment, Height, Whole}
-use Rattle.pbm_reader.specs.Page.{IsPageSize}
+use Rattle.packed_rows.specs.Page.{IsPageSize}
 use Rattle.pbm_reader.specs.Spelling.{magic, is_white, is_line_end, IsHeader, IsSomeHeader, IsRaster}
 use Rattle.pbm_reader.specs.Header.{with_digit, in_gap, in_comment, next_state, wrong_byte, missing_byte}
 use Rattle.pbm_reader.specs.Fault.{Begins, HasMagic, IsFrontOf, IsMagicFault, IsHeaderFault, IsHeaderTooLong, HasPageHeader, IsSizeFault, IsTruncated, HasFaultWithin}
 use Rattle.pbm_reader.proofs.Machines.{run, run_append, IsRead, IsOpen, IsStuck, front_of, stops_of, front_map, stops_map}
-use Rattle.pbm_reader.proofs.Gaps.{some_is, none_some, tested, gap_tested}
+use Rattle.pbm_reader.proofs.Gaps.{some_is, none_some, not_both, tested, gap_tested}
 use Rattle.pbm_reader.proofs.HeaderWalk.{is_whole, completes, header_machine, is_read, is_header, digit_tested}
 
 -- ---- behind the form's name
 
-abbrev past : HeaderState → Bool
+abbrev pub past : HeaderState → Bool
 past Magic = false
 past Kind = false
 past (Named form) = true
@@ -176,29 +176,26 @@ no_name (byte ∷ rest) stays (inr m) = refused (subst (λ (n : ℕ). next_state
     refused : (let o : Option HeaderState = Some (Named Raw) in o) ≡ None → ⊥
     refused e = cc
 
-wrong_past : (t : HeaderState) (at : ℕ) → past t ≡ true → wrong_byte t at ≡ faults.Header at
-wrong_past Magic at p = absurd cc
-wrong_past Kind at p = absurd cc
-wrong_past (Named form) at p = refl
-wrong_past (WidthGap form) at p = refl
-wrong_past (WidthComment form) at p = refl
-wrong_past (Width form width) at p = refl
-wrong_past (HeightGap form width) at p = refl
-wrong_past (HeightComment form width) at p = refl
-wrong_past (Height form width height) at p = refl
-wrong_past (Whole form width height) at p = refl
+-- in the form's name a wrong byte and a missing one are one fault, and behind it two
+pub byte_faults : (t : HeaderState) (at : ℕ) → ((past t ≡ false) × (wrong_byte t at ≡ faults.Magic at) × (missing_byte t at ≡ faults.Magic at))
+    ⊎ ((past t ≡ true) × (wrong_byte t at ≡ faults.Header at) × (missing_byte t at ≡ faults.Truncated at))
+byte_faults Magic at = inl (refl, refl, refl)
+byte_faults Kind at = inl (refl, refl, refl)
+byte_faults (Named form) at = inr (refl, refl, refl)
+byte_faults (WidthGap form) at = inr (refl, refl, refl)
+byte_faults (WidthComment form) at = inr (refl, refl, refl)
+byte_faults (Width form width) at = inr (refl, refl, refl)
+byte_faults (HeightGap form width) at = inr (refl, refl, refl)
+byte_faults (HeightComment form width) at = inr (refl, refl, refl)
+byte_faults (Height form width height) at = inr (refl, refl, refl)
+byte_faults (Whole form width height) at = inr (refl, refl, refl)
 
-missing_past : (t : HeaderState) (at : ℕ) → past t ≡ true → missing_byte t at ≡ faults.Truncated at
-missing_past Magic at p = absurd cc
-missing_past Kind at p = absurd cc
-missing_past (Named form) at p = refl
-missing_past (WidthGap form) at p = refl
-missing_past (WidthComment form) at p = refl
-missing_past (Width form width) at p = refl
-missing_past (HeightGap form width) at p = refl
-missing_past (HeightComment form width) at p = refl
-missing_past (Height form width height) at p = refl
-missing_past (Whole form width height) at p = refl
+past_faults : (t : HeaderState) (at : ℕ) → past t ≡ true → (wrong_byte t at ≡ faults.Header at) × (missing_byte t at ≡ faults.Truncated at)
+past_faults t at p =
+    elim (byte_faults t at) [
+      | inl name ↦ absurd (not_both (past t) p name.0)
+      | inr behind ↦ (behind.1, behind.2)
+    ]
 
 -- nothing, or a `P`, and then no form's name
 magic_fault : (front rest : List ℕ) (t : HeaderState) → IsStuck next_state t rest → ((front ≡ []) × (t ≡ Magic)) ⊎ ((front ≡ 80 ∷ []) × (t ≡ Kind))
@@ -238,7 +235,7 @@ wrong_fault front byte more t o e low = cases (read_so_far front t o.reads)
     cases (inr (inl m)) = at_magic Kind m.1 (magic_fault front (byte ∷ more) t e (inr m)) refl
     cases (inr (inr n)) =
         let P : PageFault → Type 0 = λ k. HasFaultWithin (front ++ byte ∷ more) k in
-        subst P (sym (wrong_past t (length front) n.past_it)) (named n)
+        subst P (sym (past_faults t (length front) n.past_it).0) (named n)
 
 -- an input that ends before its header is whole
 pub missing_fault : (front : List ℕ) (t : HeaderState) → IsOpen header_machine front t → length front ≤ 65536 → HasFaultWithin front (missing_byte t (length front))
@@ -256,7 +253,7 @@ missing_fault front t o low = cases (read_so_far front t o.reads)
     cases (inl m) = at_magic Magic m.1 (magic_fault front [] t tt (inl m)) refl
     cases (inr (inl m)) = at_magic Kind m.1 (magic_fault front [] t tt (inr m)) refl
     cases (inr (inr n)) =
-        subst P (sym (missing_past t (length front) n.past_it))
+        subst P (sym (past_faults t (length front) n.past_it).1)
         (record { end = refl; short = omega (arith, low); part = inl (record { some = named_len front t n; short = low; begins = header_front front t o }) })
 
 -- 65,536 bytes, and more that go on with a header or end it

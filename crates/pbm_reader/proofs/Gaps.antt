@@ -236,6 +236,9 @@ some_is a b e = cc
 pub none_some : {A : Type 0} (a : A) → (let o : Option A = None in o) ≡ Some a → ⊥
 none_some a e = cc
 
+pub not_both : (b : Bool) → b ≡ true → b ≡ false → ⊥
+not_both b p q = cc
+
 -- why a test that gave a state gave it
 pub tested : {State : Type 0} (b : Bool) (s n : State) (other : Option State) → cond b (Some s) other ≡ Some n → ((b ≡ true) × (n ≡ s)) ⊎ ((b ≡ false) × (other ≡ Some n))
 tested true s n other e = inl (refl, sym (some_is s n e))

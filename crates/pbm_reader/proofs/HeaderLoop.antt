@@ -1,6 +1,7 @@
 -- A header's loop keeps what was read of it, and each refusal is the fault of the input.
-use Rattle.std.proofs.Common.{◌≡◌, ℕ, ◌+◌, ◌<◌, ◌≤◌, min, Bool, true, false, List, [], ◌∷◌, ◌++◌, length, Option, Some, None, option_and_then, refl, sym, ap, subst, ◌∙◌, append_assoc, append-nil, inl, inr, arith}
+use Rattle.std.proofs.Common.{◌≡◌, ℕ, ◌+◌, ◌<◌, ◌≤◌, ◌⊎◌, min, Bool, true, false, List, [], ◌∷◌, ◌++◌, length, Option, Some, None, option_and_then, refl, sym, ap, subst, ◌∙◌, append_assoc, append-nil, inl, inr, arith}
 use Rattle.std.specs.Prelude.{IfSome}
+use Rattle.std.proofs.lemmas.Bool.{false_from_ne_true}
 use Rattle.std.proofs.lemmas.List.{length-append}
 use Rattle.pbm_reader.specs.declared.form.Form.{Form}
 use Rattle.pbm_reader.specs.declared.header.Told.{Told}
@@ -8,8 +9,8 @@ use Rattle.pbm_reader.specs.declared.fault.Size.{Size}
 use Rattle.pbm_reader.specs.declared.fault.PageFault.{PageFault}
 use Rattle.pbm_reader.specs.declared.fault.PageFault.TheVariants as faults
 use Rattle.pbm_reader.specs.declared.state.HeaderState.{HeaderState}
-use Rattle.pbm_reader.specs.declared.state.HeaderState.TheVariants.{Magic, Kind, Named, WidthGap, WidthComment, Width, HeightGap, HeightComment, Height, Whole}
-use Rattle.pbm_reader.specs.Page.{IsPageSize}
+use Rattle.pbm_reader.specs.declared.state.HeaderState.TheVariants.{Magic, Whole}
+use Rattle.packed_rows.specs.Page.{IsPageSize}
 use Rattle.pbm_reader.specs.Spelling.{IsHeader}
 use Rattle.pbm_reader.specs.Header.{next_state, wrong_byte, missing_byte, TookSizes, TookHeader}
 use Rattle.pbm_reader.specs.Fault.{HasFault, HasFaultWithin, IsSizeFault, DecidesNothing, IsTruncated, IsHeaderTooLong}
@@ -18,9 +19,9 @@ use Rattle.layout_outside.specs.Taken.{Took, TookAll}
 use Rattle.pbm_reader.specs.Reading.{Refuses}
 use Rattle.pbm_reader.proofs.Taken.{took_more, took_no_more, took_all, prepend_nothing, of_all, of_end}
 use Rattle.pbm_reader.proofs.Machines.{run, run_append, IsOpen}
-use Rattle.pbm_reader.proofs.HeaderWalk.{is_whole, header_machine, read_header}
-use Rattle.pbm_reader.proofs.Faults.{IsNamed, read_so_far, header_cut, wrong_fault, missing_fault, too_long, size_fault, told_size}
-use Rattle.pbm_reader.proofs.Judged.{has_fault, nothing_undecided, letter_undecided, cut_undecided}
+use Rattle.pbm_reader.proofs.HeaderWalk.{is_whole, header_machine, read_header, whole_is, whole_form, whole_width, whole_height}
+use Rattle.pbm_reader.proofs.Faults.{IsNamed, byte_faults, read_so_far, header_cut, wrong_fault, missing_fault, too_long, size_fault, told_size}
+use Rattle.pbm_reader.proofs.OneFault.{has_fault, nothing_undecided, letter_undecided, cut_undecided}
 
 -- these bytes of a header were taken, and lead to this state
 pub record IsReading (old now : SourceView) (at : ℕ) (state : HeaderState) : Type 0 where
@@ -55,34 +56,16 @@ reading_whole old middle new at byte state form width height r took step low =
       took = took_more old middle new r.taken (byte ∷ []) r.took took;
       width = h.width;
       height = h.height;
-      is_header = subst (λ (f : Form). IsHeader (r.taken ++ byte ∷ []) f h.width h.height) (form_is h.form form (min h.width 999999999) (min h.height 999999999) width height (sym h.told)) h.is_header;
-      width_told = width_is form h.form width height (min h.width 999999999) (min h.height 999999999) h.told;
-      height_told = height_is form h.form width height (min h.width 999999999) (min h.height 999999999) h.told;
+      is_header = subst (λ (f : Form). IsHeader (r.taken ++ byte ∷ []) f h.width h.height) (whole_form h.form form (min h.width 999999999) (min h.height 999999999) width height (sym h.told)) h.is_header;
+      width_told = whole_width form h.form width height (min h.width 999999999) (min h.height 999999999) h.told;
+      height_told = whole_height form h.form width height (min h.width 999999999) (min h.height 999999999) h.told;
       len = omega (arith, len, r.len);
       short = omega (arith, len, r.len, low);
     }
-  where
-    form_is : (f g : Form) (a b c d : ℕ) → Whole f a b ≡ Whole g c d → f ≡ g
-    form_is f g a b c d e = cc
-
-    width_is : (f g : Form) (a b c d : ℕ) → Whole f a b ≡ Whole g c d → a ≡ c
-    width_is f g a b c d e = cc
-
-    height_is : (f g : Form) (a b c d : ℕ) → Whole f a b ≡ Whole g c d → b ≡ d
-    height_is f g a b c d e = cc
 
 -- a state that is no whole header
 pub not_whole : (s : HeaderState) → ((form : Form) (width height : ℕ) → s ≡ Whole form width height → ⊥) → is_whole s ≡ false
-not_whole Magic other = refl
-not_whole Kind other = refl
-not_whole (Named form) other = refl
-not_whole (WidthGap form) other = refl
-not_whole (WidthComment form) other = refl
-not_whole (Width form width) other = refl
-not_whole (HeightGap form width) other = refl
-not_whole (HeightComment form width) other = refl
-not_whole (Height form width height) other = refl
-not_whole (Whole form width height) other = absurd (other form width height refl)
+not_whole s other = false_from_ne_true (is_whole s) (λ w. let is = whole_is s w in other is.0 is.1 is.2 is.3)
 
 -- ---- refusals
 
@@ -100,29 +83,24 @@ refused old new faults.InputTooLong other f = f
 refused old new faults.ReadFault other f = absurd (other refl)
 refused old new faults.Memory other f = tt
 
+other_fault : (fault : PageFault) (at : ℕ) → (fault ≡ faults.Magic at) ⊎ ((fault ≡ faults.Header at) ⊎ (fault ≡ faults.Truncated at)) → fault ≡ faults.ReadFault → ⊥
+other_fault fault at (inl f) e = cc
+other_fault fault at (inr (inl f)) e = cc
+other_fault fault at (inr (inr f)) e = cc
+
 wrong_other : (state : HeaderState) (at : ℕ) → wrong_byte state at ≡ faults.ReadFault → ⊥
-wrong_other Magic at e = cc
-wrong_other Kind at e = cc
-wrong_other (Named form) at e = cc
-wrong_other (WidthGap form) at e = cc
-wrong_other (WidthComment form) at e = cc
-wrong_other (Width form width) at e = cc
-wrong_other (HeightGap form width) at e = cc
-wrong_other (HeightComment form width) at e = cc
-wrong_other (Height form width height) at e = cc
-wrong_other (Whole form width height) at e = cc
+wrong_other state at e =
+    elim (byte_faults state at) [
+      | inl name ↦ other_fault (wrong_byte state at) at (inl name.1) e
+      | inr behind ↦ other_fault (wrong_byte state at) at (inr (inl behind.1)) e
+    ]
 
 missing_other : (state : HeaderState) (at : ℕ) → missing_byte state at ≡ faults.ReadFault → ⊥
-missing_other Magic at e = cc
-missing_other Kind at e = cc
-missing_other (Named form) at e = cc
-missing_other (WidthGap form) at e = cc
-missing_other (WidthComment form) at e = cc
-missing_other (Width form width) at e = cc
-missing_other (HeightGap form width) at e = cc
-missing_other (HeightComment form width) at e = cc
-missing_other (Height form width height) at e = cc
-missing_other (Whole form width height) at e = cc
+missing_other state at e =
+    elim (byte_faults state at) [
+      | inl name ↦ other_fault (missing_byte state at) at (inl name.2) e
+      | inr behind ↦ other_fault (missing_byte state at) at (inr (inr behind.2)) e
+    ]
 
 pub wrong_fails : (old middle new : SourceView) (at byte : ℕ) (state : HeaderState) → IsReading old middle at state → Took middle new (byte ∷ [])
     → next_state state byte ≡ None → at < 65536 → Refuses old new (wrong_byte state at)

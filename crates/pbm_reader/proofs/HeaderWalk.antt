@@ -16,17 +16,30 @@ abbrev pub is_whole : HeaderState → Bool
 is_whole (Whole form width height) = true
 is_whole state = false
 
+-- a whole header has one form and one size
+pub whole_form : (f g : Form) (a b c d : ℕ) → Whole f a b ≡ Whole g c d → f ≡ g
+whole_form f g a b c d e = cc
+
+pub whole_width : (f g : Form) (a b c d : ℕ) → Whole f a b ≡ Whole g c d → a ≡ c
+whole_width f g a b c d e = cc
+
+pub whole_height : (f g : Form) (a b c d : ℕ) → Whole f a b ≡ Whole g c d → b ≡ d
+whole_height f g a b c d e = cc
+
+pub whole_is : (s : HeaderState) → is_whole s ≡ true → (form : Form) × (width : ℕ) × (height : ℕ) × (s ≡ Whole form width height)
+whole_is Magic w = absurd cc
+whole_is Kind w = absurd cc
+whole_is (Named form) w = absurd cc
+whole_is (WidthGap form) w = absurd cc
+whole_is (WidthComment form) w = absurd cc
+whole_is (Width form width) w = absurd cc
+whole_is (HeightGap form width) w = absurd cc
+whole_is (HeightComment form width) w = absurd cc
+whole_is (Height form width height) w = absurd cc
+whole_is (Whole form width height) w = (form, width, height, refl)
+
 pub whole_ends : (s : HeaderState) (byte : ℕ) → is_whole s ≡ true → next_state s byte ≡ None
-whole_ends Magic byte w = absurd cc
-whole_ends Kind byte w = absurd cc
-whole_ends (Named form) byte w = absurd cc
-whole_ends (WidthGap form) byte w = absurd cc
-whole_ends (WidthComment form) byte w = absurd cc
-whole_ends (Width form width) byte w = absurd cc
-whole_ends (HeightGap form width) byte w = absurd cc
-whole_ends (HeightComment form width) byte w = absurd cc
-whole_ends (Height form width height) byte w = absurd cc
-whole_ends (Whole form width height) byte w = refl
+whole_ends s byte w = let is = whole_is s w in ap (λ (state : HeaderState). next_state state byte) is.3
 
 pub completes : (s : HeaderState) → is_whole s ≡ false → Completes next_state is_whole s
 completes Magic w = record { bytes = 80 ∷ 52 ∷ 10 ∷ 49 ∷ 10 ∷ 49 ∷ 10 ∷ []; some = lit< tt; last = Whole Raw 1 1; reads = refl; whole = refl }
@@ -280,19 +293,10 @@ one_back t (Height form width height) n byte bytes e r = cases (tested (is_white
 one_back t (Whole form width height) n byte bytes e r = absurd (none_some n e)
 
 whole_here : (t s : HeaderState) → s ≡ t → is_whole t ≡ true → Rest t s []
-whole_here t s e w = cases s e (subst (λ (k : HeaderState). is_whole k ≡ true) (sym e) w)
-  where
-    cases : (s : HeaderState) → s ≡ t → is_whole s ≡ true → Rest t s []
-    cases Magic e w = absurd cc
-    cases Kind e w = absurd cc
-    cases (Named form) e w = absurd cc
-    cases (WidthGap form) e w = absurd cc
-    cases (WidthComment form) e w = absurd cc
-    cases (Width form width) e w = absurd cc
-    cases (HeightGap form width) e w = absurd cc
-    cases (HeightComment form width) e w = absurd cc
-    cases (Height form width height) e w = absurd cc
-    cases (Whole form width height) e w = (refl, sym e)
+whole_here t s e w =
+    let is = whole_is t w in
+    let ended : Rest t (Whole is.0 is.1 is.2) [] = (refl, is.3) in
+    subst (λ (k : HeaderState). Rest t k []) (sym (e ∙ is.3)) ended
 
 ends_header : (bytes : List ℕ) (s t : HeaderState) → run next_state s bytes ≡ Some t → is_whole t ≡ true → Rest t s bytes
 ends_header [] s t e w = whole_here t s (some_is s t e) w

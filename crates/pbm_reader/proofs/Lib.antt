@@ -7,10 +7,16 @@ mod Gaps
 pub mod HeaderWalk
 pub mod RasterWalk
 pub mod Verdict
+pub mod FaultVerdicts
 pub mod Faults
+pub mod Settled
+pub mod OneFault
+pub mod RasterJudged
 pub mod Judged
+pub mod OnePage
 pub mod HeaderLoop
-pub mod Pixels
+pub mod Pictures
+pub mod TopRows
 pub mod RowLoop
 pub mod PixelLoop
 pub mod PlainRows

@@ -1,19 +1,16 @@
 -- Pixels of a plain raster are read one after the other.
-use Rattle.std.proofs.Common.{lit<, ◌≡◌, ℕ, ◌+◌, ◌-◌, ◌/◌, ◌%◌, ◌<◌, ◌≤◌, ◌⊎◌, Bool, true, false, not, cond, eqb, List, [], ◌∷◌, ◌++◌, length, get_or, Option, refl, sym, ap, subst, ◌∙◌, append_assoc, append-nil, inl, inr, arith}
-use Rattle.std.proofs.lemmas.Bool.Decides.{nat_tests}
-use Rattle.std.proofs.lemmas.Bool.{cases_lt}
+use Rattle.std.proofs.Common.{lit<, ◌≡◌, ℕ, ◌+◌, ◌<◌, ◌≤◌, ◌⊎◌, Bool, true, false, not, cond, eqb, List, [], ◌∷◌, ◌++◌, length, get_or, refl, sym, ap, subst, ◌∙◌, append_assoc, append-nil, inl, inr, arith}
+use Rattle.std.proofs.lemmas.Bool.{cases_lt, eqb-true, eq-eqb, ne_eqb}
 use Rattle.std.proofs.lemmas.List.{length-append, get_or_append_left, get_or_past}
 use Rattle.std.proofs.lemmas.List.Folds.{concat-append}
-use Rattle.std.proofs.lemmas.Nat.Bits.{bit_at-zero}
 use Rattle.std.proofs.Math.Seq.{get_or-append-add}
-use Rattle.std.specs.Int.{bit_at}
 use Rattle.std.specs.List.{concat}
 use Rattle.pbm_reader.specs.declared.fault.PageFault.{PageFault}
 use Rattle.pbm_reader.specs.declared.fault.PageFault.TheVariants as faults
 use Rattle.pbm_reader.specs.declared.plain.PixelStep.TheVariants.{Blank, Found, Wrong}
-use Rattle.pbm_reader.specs.Page.{row_len, pixel, IsPackedRow}
+use Rattle.packed_rows.specs.Page.{row_len, pixel, IsPackedRow}
 use Rattle.pbm_reader.specs.Spelling.{is_white, is_line_end, AreInLine, IsWhite, IsComment, AreBlank, IsBlank, SpellsPixels}
-use Rattle.pbm_reader.specs.Plain.{pixel_step, IsBlankPart, bit_of, TookPixels, PixelsBegun, PixelsFail, TookRow}
+use Rattle.pbm_reader.specs.Plain.{pixel_step, IsBlankPart, bit_of, ArePacked, TookPixels, PixelsBegun, PixelsFail, TookRow}
 use Rattle.layout_outside.specs.Views.{SourceView}
 use Rattle.layout_outside.specs.Taken.{Took, TookAll}
 use Rattle.pbm_reader.proofs.Taken.{took_more, took_no_more, took_all, prepend_nothing}
@@ -41,9 +38,6 @@ blank_is c d e = cc
 found_is : (c d : Bool) → Found c ≡ Found d → c ≡ d
 found_is c d e = cc
 
-is_eq : (a b : ℕ) → eqb a b ≡ true → a ≡ b
-is_eq a b e = grind (arith, nat_tests)
-
 comment_step : (part : List ℕ) (byte : ℕ) (goes_on b : Bool) → is_line_end byte ≡ b → not b ≡ goes_on → IsBlankPart true part → IsBlankPart goes_on (part ++ byte ∷ [])
 comment_step part byte true true w e p = absurd cc
 comment_step part byte false false w e p = absurd cc
@@ -64,7 +58,7 @@ part_more false goes_on part byte e p = cases (eqb byte 48) (eqb byte 49) (eqb b
     cases false true h he w we q = absurd cc
     cases false false true he w we q =
         let P : Bool → Type 0 = λ b. IsBlankPart b (part ++ byte ∷ []) in
-        subst P (blank_is true goes_on q) (part, [], ap (λ (b : ℕ). part ++ b ∷ []) (is_eq byte 35 he), p, tt)
+        subst P (blank_is true goes_on q) (part, [], ap (λ (b : ℕ). part ++ b ∷ []) (eqb-true byte 35 he), p, tt)
     cases false false false he true we q =
         let P : Bool → Type 0 = λ b. IsBlankPart b (part ++ byte ∷ []) in
         subst P (blank_is false goes_on q) (blank_more part (byte ∷ []) p (inl (record { byte = byte; whole = refl; white = we })))
@@ -80,8 +74,8 @@ found_of false is_black byte e = record { outside = refl; byte_is = cases (eqb b
   where
     cases : (z : Bool) → eqb byte 48 ≡ z → (o : Bool) → eqb byte 49 ≡ o → (h w : Bool)
         → cond z (Found false) (cond o (Found true) (cond h (Blank true) (cond w (Blank false) Wrong))) ≡ Found is_black → byte ≡ 48 + bit_of is_black
-    cases true ze o oe h w q = is_eq byte 48 ze ∙ ap (λ (b : Bool). 48 + bit_of b) (found_is false is_black q)
-    cases false ze true oe h w q = is_eq byte 49 oe ∙ ap (λ (b : Bool). 48 + bit_of b) (found_is true is_black q)
+    cases true ze o oe h w q = eqb-true byte 48 ze ∙ ap (λ (b : Bool). 48 + bit_of b) (found_is false is_black q)
+    cases false ze true oe h w q = eqb-true byte 49 oe ∙ ap (λ (b : Bool). 48 + bit_of b) (found_is true is_black q)
     cases false ze false oe true w q = absurd cc
     cases false ze false oe false true q = absurd cc
     cases false ze false oe false false q = absurd cc
@@ -211,7 +205,7 @@ pixels_fail old middle new start at n count a faults.InputTooLong p le f =
     )
 pixels_fail old middle new start at n count a faults.ReadFault p le f =
     (f.0, p.bytes ++ f.1, took_more old middle new p.bytes f.1 p.took f.2, begun_more a p.bytes n count f.0 f.1 p.spelled le f.3, omega (arith, p.end_is, f.4, length-append p.bytes f.1))
-pixels_fail old middle new start at n count a faults.Memory p le f = tt
+pixels_fail old middle new start at n count a faults.Memory p le f = (p.bytes ++ f.0, took_more old middle new p.bytes f.0 p.took f.1)
 pixels_fail old middle new start at n count a (faults.Magic place) p le f = absurd f
 pixels_fail old middle new start at n count a (faults.Header place) p le f = absurd f
 pixels_fail old middle new start at n count a faults.HeaderTooLong p le f = absurd f
@@ -236,42 +230,21 @@ filling_begins old start row low white = record {
   packed = λ k. white k ∙ sym (get_or_past [] k 0 (omega arith));
 }
 
--- a row of zeros is white
-pub row_white : (size : ℕ) (row : List ℕ) → length row ≡ size → ((k d : ℕ) → k < size → get_or row k d ≡ 0) → (k : ℕ) → pixel row k ≡ 0
-row_white size row len zeros k = ap (λ (n : ℕ). bit_at n (7 - k % 8)) byte ∙ bit_at-zero (7 - k % 8)
-  where
-    byte : get_or row (k / 8) 0 ≡ 0
-    byte =
-        elim (cases_lt (k / 8) size) [
-          | inl lt ↦ zeros (k / 8) 0 lt
-          | inr ge ↦ get_or_past row (k / 8) 0 (omega (arith, len, ge))
-        ]
-
 one_more : (pixels : List ℕ) (bit k : ℕ) → get_or (pixels ++ bit ∷ []) k 0 ≡ cond (eqb k (length pixels)) bit (get_or pixels k 0)
 one_more pixels bit k =
     elim (cases_lt k (length pixels)) [
-      | inl lt ↦ get_or_append_left pixels (bit ∷ []) 0 k lt ∙ ap (λ (b : Bool). cond b bit (get_or pixels k 0)) (sym (apart k (length pixels) (λ e. omega (arith, e, lt))))
+      | inl lt ↦ get_or_append_left pixels (bit ∷ []) 0 k lt ∙ ap (λ (b : Bool). cond b bit (get_or pixels k 0)) (sym (ne_eqb k (length pixels) (λ e. omega (arith, e, lt))))
       | inr ge ↦
           elim (cases_lt (length pixels) k) [
             | inr le ↦
                 let e : k ≡ length pixels + 0 = omega (arith, ge, le) in
                 ap (λ (n : ℕ). get_or (pixels ++ bit ∷ []) n 0) e ∙ get_or-append-add pixels (bit ∷ []) 0 0
-                ∙ ap (λ (b : Bool). cond b bit (get_or pixels k 0)) (sym (same k (length pixels) (omega (arith, e))))
+                ∙ ap (λ (b : Bool). cond b bit (get_or pixels k 0)) (sym (eq-eqb k (length pixels) (omega (arith, e))))
             | inl gt ↦
                 get_or_past (pixels ++ bit ∷ []) k 0 (omega (arith, length-append pixels (bit ∷ []), gt)) ∙ sym (get_or_past pixels k 0 (omega (arith, gt)))
-                ∙ ap (λ (b : Bool). cond b bit (get_or pixels k 0)) (sym (apart k (length pixels) (λ e. omega (arith, e, gt))))
+                ∙ ap (λ (b : Bool). cond b bit (get_or pixels k 0)) (sym (ne_eqb k (length pixels) (λ e. omega (arith, e, gt))))
           ]
     ]
-  where
-    apart : (a b : ℕ) → (a ≡ b → ⊥) → eqb a b ≡ false
-    apart a b other = by_test (eqb a b) refl
-      where
-        by_test : (t : Bool) → eqb a b ≡ t → t ≡ false
-        by_test false e = refl
-        by_test true e = absurd (other (is_eq a b e))
-
-    same : (a b : ℕ) → a ≡ b → eqb a b ≡ true
-    same a b e = grind (arith, nat_tests)
 
 pub filling_on : (old middle new : SourceView) (start at end x : ℕ) (is_black : Bool) (row next : List ℕ) → IsFilling old middle start at x row
     → TookPixels middle new at end (bit_of is_black ∷ []) → ((k : ℕ) → pixel next k ≡ cond (eqb k x) (bit_of is_black) (pixel row k)) → IsFilling old new start end (x + 1) next
@@ -296,8 +269,9 @@ pub filling_fails : (old middle new : SourceView) (start at x width : ℕ) (row 
     → PixelsFail middle new at 1 fault → PixelsFail old new start width fault
 filling_fails old middle new start at x width row fault f lt fails = pixels_fail old middle new start at 1 width f.pixels fault f.took (omega (arith, f.count, lt)) fails
 
+-- the padding behind the pixels is white
+pub are_packed : (width : ℕ) (pixels bits : List ℕ) → length pixels ≡ width → ArePacked width pixels bits → IsPackedRow width bits
+are_packed width pixels bits count packed = record { len = packed.len; padding = λ x le. packed.pixels_are x ∙ get_or_past pixels x 0 (omega (arith, count, le)) }
+
 pub row_packed : (old now : SourceView) (start end width : ℕ) (bits : List ℕ) → TookRow old now start end width bits → IsPackedRow width bits
-row_packed old now start end width bits r = record {
-  len = r.packed.len;
-  padding = λ x le. r.packed.pixels_are x ∙ get_or_past r.pixels x 0 (omega (arith, r.count, le));
-}
+row_packed old now start end width bits r = are_packed width r.pixels bits r.count r.packed

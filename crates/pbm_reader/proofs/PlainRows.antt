@@ -1,26 +1,27 @@
 -- The rows of a plain raster are given one after the other.
-use Rattle.std.proofs.Common.{◌≡◌, ℕ, zero, suc, ◌+◌, ◌-◌, ◌*◌, ◌<◌, ◌≤◌, Bool, false, cond, eqb, ◌&&◌, List, [], ◌∷◌, ◌++◌, length, get_or, Option, option_and_then, refl, sym, ap, subst, ◌∙◌, append_assoc, append-nil, inl, inr, arith}
+use Rattle.std.proofs.Common.{◌≡◌, ℕ, zero, suc, ◌+◌, ◌-◌, ◌*◌, ◌<◌, ◌≤◌, Bool, false, cond, eqb, List, [], ◌∷◌, ◌++◌, length, get_or, Option, option_and_then, refl, sym, ap, subst, ◌∙◌, append_assoc, append-nil, arith}
 use Rattle.std.proofs.Math.Nat.{mul-le-mul_right}
 use Rattle.std.proofs.Math.Seq.{get_or-append-add}
-use Rattle.std.proofs.lemmas.Bool.{cases_lt, lt-ltb, le-ltb}
 use Rattle.std.proofs.lemmas.List.{length-append, get_or_append_left, get_or_past}
 use Rattle.layout_outside.specs.Views.{SourceView}
 use Rattle.pbm_reader.specs.declared.fault.PageFault.{PageFault}
 use Rattle.pbm_reader.specs.declared.fault.PageFault.TheVariants as faults
 use Rattle.pbm_reader.specs.declared.form.Form.TheVariants.{Plain}
 use Rattle.pbm_reader.specs.declared.plain.PixelStep.TheVariants.{Wrong}
-use Rattle.pbm_reader.specs.Page.{IsRowOf}
+use Rattle.packed_rows.specs.Page.{IsRowOf}
+use Rattle.packed_rows.specs.PageLaws.{black_bit, row_of_page}
 use Rattle.pbm_reader.specs.Spelling.{IsRaster, SpellsPixels, pixels_page}
 use Rattle.pbm_reader.specs.Fault.{IsFrontOf}
-use Rattle.pbm_reader.specs.Given.{AfterRows, Stays}
+use Rattle.pbm_reader.specs.Given.{AfterRows, Stays, StandsBehind}
 use Rattle.pbm_reader.specs.Plain.{pixel_step, TookPixels, PixelsBegun, PixelsFail, ArePacked, TakesPixels}
 use Rattle.pbm_reader.specs.Raster.{RasterFails, TookRaster, GivenTopRows}
 use Rattle.pbm_reader.proofs.Machines.{run, run_append, IsRead}
 use Rattle.pbm_reader.proofs.RasterWalk.{RasterState, raster_step, wanted, raster_machine, begun_open, wrong_stops, part_state, raster_is_read}
 use Rattle.pbm_reader.proofs.Gaps.{none_some}
-use Rattle.pbm_reader.proofs.Judged.{plain_begins}
-use Rattle.pbm_reader.proofs.PixelLoop.{took_pixels, pixels_fail}
-use Rattle.pbm_reader.proofs.Taken.{prepend_nothing, all_left}
+use Rattle.pbm_reader.proofs.RasterJudged.{plain_begins}
+use Rattle.pbm_reader.proofs.PixelLoop.{are_packed, took_pixels, pixels_fail}
+use Rattle.pbm_reader.proofs.TopRows.{Stopped}
+use Rattle.pbm_reader.proofs.Taken.{prepend_nothing, took_more}
 
 -- the first y rows were read and given
 pub record IsGivingPixels {Sink : Type 0} (given : Sink → List ℕ → Sink → Type 0) (old now : SourceView) (begin at width height y : ℕ) (start sink : Sink) : Type 0 where
@@ -43,39 +44,24 @@ bits_low [] bytes k s = let e = get_or_past {X = ℕ} [] k 0 (omega arith) in om
 bits_low (bit ∷ pixels) bytes zero s = s.4
 bits_low (bit ∷ pixels) bytes (suc k) s = bits_low pixels s.1 k s.5
 
-bit_is : (bit : ℕ) → bit < 2 → bit ≡ cond (eqb bit 1) 1 0
-bit_is zero lt = refl
-bit_is (suc zero) lt = refl
-bit_is (suc (suc n)) lt = absurd (omega arith)
-
 -- the pixels of a row stand behind those of the rows before it
-pixels_row : (width height y : ℕ) (before row rest bytes bits : List ℕ) → length before ≡ y * width → length row ≡ width → SpellsPixels row bytes → ArePacked width row bits
+pixels_row : (width height y : ℕ) (before row rest bytes bits : List ℕ) → y < height → length before ≡ y * width → length row ≡ width → SpellsPixels row bytes → ArePacked width row bits
     → IsRowOf (pixels_page width height ((before ++ row) ++ rest)) y bits
-pixels_row width height y before row rest bytes bits count len spelled packed = record {
-  len = packed.len;
-  pixels = λ x.
-      let all = (before ++ row) ++ rest in
-      packed.pixels_are x ∙
-      elim (cases_lt x width) [
-        | inl lt ↦
-            let place : y * width + x ≡ length before + x = omega (arith, count) in
-            let same : get_or all (y * width + x) 0 ≡ get_or row x 0 =
-            ap (λ (l : List ℕ). get_or l (y * width + x) 0) (append_assoc before row rest)
-            ∙ ap (λ (n : ℕ). get_or (before ++ (row ++ rest)) n 0) place
-            ∙ get_or-append-add before (row ++ rest) x 0
-            ∙ get_or_append_left row rest 0 x (omega (arith, lt, len)) in
-            bit_is (get_or row x 0) (bits_low row bytes x spelled)
-            ∙ ap (λ (n : ℕ). cond (eqb n 1) 1 0) (sym same)
-            ∙ ap (λ (b : Bool). cond (b && eqb (get_or all (y * width + x) 0) 1) 1 0) (sym (lt-ltb x width lt))
-        | inr le ↦
-            get_or_past row x 0 (omega (arith, le, len))
-            ∙ ap (λ (b : Bool). cond (b && eqb (get_or all (y * width + x) 0) 1) 1 0) (sym (le-ltb x width le))
-      ];
-}
+pixels_row width height y before row rest bytes bits below count len spelled packed =
+    let all = (before ++ row) ++ rest in
+    row_of_page width height (λ x v. eqb (get_or all (v * width + x) 0) 1) y bits (are_packed width row bits len packed) below
+    (λ x lt.
+    let place : y * width + x ≡ length before + x = omega (arith, count) in
+    let same : get_or all (y * width + x) 0 ≡ get_or row x 0 =
+    ap (λ (l : List ℕ). get_or l (y * width + x) 0) (append_assoc before row rest)
+    ∙ ap (λ (n : ℕ). get_or (before ++ (row ++ rest)) n 0) place
+    ∙ get_or-append-add before (row ++ rest) x 0
+    ∙ get_or_append_left row rest 0 x (omega (arith, lt, len)) in
+    packed.pixels_are x ∙ black_bit (get_or row x 0) (bits_low row bytes x spelled) ∙ ap (λ (n : ℕ). cond (eqb n 1) 1 0) (sym same))
 
 pub one_more_row : {Sink : Type 0} (given : Sink → List ℕ → Sink → Type 0) (old middle new : SourceView) (begin at end width height y : ℕ) (start sink next : Sink)
-    → IsGivingPixels given old middle begin at width height y start sink → TakesPixels given middle new at end width sink next → IsGivingPixels given old new begin end width height (y + 1) start next
-one_more_row given old middle new begin at end width height y start sink next g t =
+    → IsGivingPixels given old middle begin at width height y start sink → y < height → TakesPixels given middle new at end width sink next → IsGivingPixels given old new begin end width height (y + 1) start next
+one_more_row given old middle new begin at end width height y start sink next g below t =
     let row = t.row.pixels in
     record {
       pixels = g.pixels ++ row;
@@ -87,7 +73,7 @@ one_more_row given old middle new begin at end width height y start sink next g 
           let Q : List ℕ → Type 0 = λ l. AfterRows given (pixels_page width height l) y start sink in
           let before : AfterRows given page y start sink = subst Q (sym (append_assoc g.pixels row rest)) (g.rows (row ++ rest)) in
           let e : suc y ≡ y + 1 = omega arith in
-          subst P e (sink, t.bits, before, pixels_row width height y g.pixels row rest t.row.took.bytes t.bits g.count t.row.count t.row.took.spelled t.row.packed, t.gives);
+          subst P e (sink, t.bits, before, pixels_row width height y g.pixels row rest t.row.took.bytes t.bits below g.count t.row.count t.row.took.spelled t.row.packed, t.gives);
     }
 
 -- pixels that have begun begin a raster
@@ -145,18 +131,27 @@ all_rows given old now begin at width height y start sink g e =
       low = g.took.low;
     }
 
-pub rows_stop : {Sink : Type 0} (given : Sink → List ℕ → Sink → Type 0) (unchanged : Sink → Sink → Type 0) (old now : SourceView) (begin at width height y : ℕ) (start sink last : Sink)
-    → IsGivingPixels given old now begin at width height y start sink → Stays unchanged sink last → GivenTopRows given unchanged Plain width height old start last
-rows_stop given unchanged old now begin at width height y start sink last g stays =
-    let a = all_left old now g.took.bytes g.took.took in
-    let Q : List ℕ → Type 0 = λ l. AfterRows given (pixels_page width height l) y start sink in
+-- the rows given before one was refused are top rows
+pub rows_stop : {Sink : Type 0} (given : Sink → List ℕ → Sink → Type 0) (unchanged : Sink → Sink → Type 0) (old middle new : SourceView) (begin at width height y : ℕ) (first sink last : Sink)
+    (fault : PageFault) → IsGivingPixels given old middle begin at width height y first sink → y ≤ height → Stays unchanged sink last → Stopped middle new at fault
+    → GivenTopRows given unchanged Plain width height begin old new first last fault
+rows_stop given unchanged old middle new begin at width height y first sink last fault g few stays stop =
+    let P : ℕ → Type 0 = λ n. StandsBehind n fault in
+    let Q : List ℕ → Type 0 = λ l. AfterRows given (pixels_page width height l) y first sink in
     record {
-      behind = g.took.bytes ++ a.0;
-      all = a.1;
-      count = y;
       page = pixels_page width height g.pixels;
-      whole = (g.pixels, g.took.bytes, a.0, refl, g.took.spelled, omega (arith, g.count), refl);
-      top = sink;
-      rows = subst Q (append-nil g.pixels) (g.rows []);
-      stays = stays;
+      raster = g.took.bytes;
+      rest = stop.0;
+      took = took_more old middle new g.took.bytes stop.0 g.took.took stop.1;
+      place = subst P g.took.end_is stop.2;
+      width_is = refl;
+      height_is = refl;
+      top = record {
+        count = y;
+        few = few;
+        spelled = (g.pixels, g.count, g.took.spelled, refl);
+        top = sink;
+        rows = subst Q (append-nil g.pixels) (g.rows []);
+        stays = stays;
+      };
     }

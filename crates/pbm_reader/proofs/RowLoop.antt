@@ -1,21 +1,23 @@
 -- The rows of a raw raster are given one after the other.
-use Rattle.std.proofs.Common.{◌≡◌, ℕ, zero, suc, ◌+◌, ◌-◌, ◌*◌, ◌/◌, ◌%◌, ◌<◌, ◌≤◌, Bool, cond, eqb, ◌&&◌, List, [], ◌++◌, length, get_or, drop, Option, refl, sym, ap, subst, ◌∙◌, append_assoc, inl, inr, arith}
+use Rattle.std.proofs.Common.{◌≡◌, ℕ, suc, ◌+◌, ◌-◌, ◌*◌, ◌/◌, ◌%◌, ◌<◌, ◌≤◌, Bool, cond, eqb, List, [], ◌++◌, length, get_or, drop, refl, sym, ap, subst, ◌∙◌, append_assoc, arith}
 use Rattle.std.proofs.Math.Nat.{mul-le-mul_right, mul-le-mul_left}
-use Rattle.std.proofs.lemmas.Bool.{cases_lt, lt-ltb, le-ltb}
+use Rattle.std.proofs.lemmas.Bool.{lt-ltb, le-ltb}
 use Rattle.std.proofs.lemmas.List.{drop_at, length-append, append-nil, get_or_append_left}
 use Rattle.std.proofs.lemmas.Nat.Bits.{bit_at-lt}
 use Rattle.std.specs.Int.{bit_at}
 use Rattle.pbm_reader.specs.declared.fault.PageFault.{PageFault}
 use Rattle.pbm_reader.specs.declared.fault.PageFault.TheVariants as faults
 use Rattle.pbm_reader.specs.declared.form.Form.TheVariants.{Raw}
-use Rattle.pbm_reader.specs.Page.{row_len, pixel, IsPageSize, IsPackedRow, IsRowOf}
+use Rattle.packed_rows.specs.Page.{row_len, pixel, IsPageSize, IsPackedRow, IsRowOf, IsCleared}
+use Rattle.packed_rows.specs.PageLaws.{black_bit, row_of_page}
 use Rattle.pbm_reader.specs.Spelling.{raster_page}
-use Rattle.pbm_reader.specs.Given.{AfterRows, Stays}
-use Rattle.pbm_reader.specs.Raster.{IsCleared, BytesFail, RasterFails, TookRaster, GivenTopRows, TakesRow}
+use Rattle.pbm_reader.specs.Given.{AfterRows, Stays, StandsBehind}
+use Rattle.pbm_reader.specs.Raster.{BytesFail, RasterFails, TookRaster, GivenTopRows, TakesRow}
 use Rattle.layout_outside.specs.Views.{SourceView}
 use Rattle.layout_outside.specs.Taken.{Took}
-use Rattle.pbm_reader.proofs.Taken.{took_more, took_all, prepend_nothing, all_left}
-use Rattle.pbm_reader.proofs.Judged.{raw_begins}
+use Rattle.pbm_reader.proofs.TopRows.{Stopped}
+use Rattle.pbm_reader.proofs.Taken.{took_more, took_all, prepend_nothing}
+use Rattle.pbm_reader.proofs.RasterJudged.{raw_begins}
 
 -- the first rows of the page that these bytes begin were given, whatever follows them
 abbrev pub GivenRows : {Sink : Type 0} → (Sink → List ℕ → Sink → Type 0) → ℕ → ℕ → List ℕ → ℕ → Sink → Sink → Type 0
@@ -35,40 +37,27 @@ no_rows given old width height start = record { part = []; took = prepend_nothin
 pub cleared_packed : (width : ℕ) (bits cleared : List ℕ) → length bits ≡ row_len width → IsCleared width bits cleared → IsPackedRow width cleared
 cleared_packed width bits cleared len c = record { len = c.len ∙ len; padding = λ x le. c.pixels x ∙ ap (λ (b : Bool). cond b (pixel bits x) 0) (le-ltb x width le) }
 
-bit_is : (bit : ℕ) → bit < 2 → bit ≡ cond (eqb bit 1) 1 0
-bit_is zero lt = refl
-bit_is (suc zero) lt = refl
-bit_is (suc (suc n)) lt = absurd (omega arith)
-
 front_pixel : (bits rest : List ℕ) (x : ℕ) → x / 8 < length bits → pixel (bits ++ rest) x ≡ pixel bits x
 front_pixel bits rest x lt = ap (λ (n : ℕ). bit_at n (7 - x % 8)) (get_or_append_left bits rest 0 (x / 8) lt)
 
 -- a cleared row is the row of the page whose raster has its bytes there
-cleared_is_row : (width height y : ℕ) (part bits rest cleared : List ℕ) → length part ≡ y * row_len width → length bits ≡ row_len width → IsCleared width bits cleared
+cleared_is_row : (width height y : ℕ) (part bits rest cleared : List ℕ) → y < height → length part ≡ y * row_len width → length bits ≡ row_len width → IsCleared width bits cleared
     → IsRowOf (raster_page width height ((part ++ bits) ++ rest)) y cleared
-cleared_is_row width height y part bits rest cleared before len c = record {
-  len = c.len ∙ len;
-  pixels = λ x.
-      let raster = (part ++ bits) ++ rest in
-      let here : drop (y * row_len width) raster ≡ bits ++ rest =
-      ap (λ (l : List ℕ). drop (y * row_len width) l) (append_assoc part bits rest) ∙ drop_at part (bits ++ rest) (y * row_len width) before in
-      c.pixels x ∙
-      elim (cases_lt x width) [
-        | inl lt ↦
-            let same : pixel (drop (y * row_len width) raster) x ≡ pixel bits x = ap (λ (l : List ℕ). pixel l x) here ∙ front_pixel bits rest x (omega arith) in
-            ap (λ (b : Bool). cond b (pixel bits x) 0) (lt-ltb x width lt)
-            ∙ bit_is (pixel bits x) (bit_at-lt (get_or bits (x / 8) 0) (7 - x % 8))
-            ∙ ap (λ (n : ℕ). cond (eqb n 1) 1 0) (sym same)
-            ∙ ap (λ (b : Bool). cond (b && eqb (pixel (drop (y * row_len width) raster) x) 1) 1 0) (sym (lt-ltb x width lt))
-        | inr le ↦
-            ap (λ (b : Bool). cond b (pixel bits x) 0) (le-ltb x width le)
-            ∙ ap (λ (b : Bool). cond (b && eqb (pixel (drop (y * row_len width) raster) x) 1) 1 0) (sym (le-ltb x width le))
-      ];
-}
+cleared_is_row width height y part bits rest cleared below before len c =
+    let raster = (part ++ bits) ++ rest in
+    let here : drop (y * row_len width) raster ≡ bits ++ rest =
+    ap (λ (l : List ℕ). drop (y * row_len width) l) (append_assoc part bits rest) ∙ drop_at part (bits ++ rest) (y * row_len width) before in
+    row_of_page width height (λ x v. eqb (pixel (drop (v * row_len width) raster) x) 1) y cleared (cleared_packed width bits cleared len c) below
+    (λ x lt.
+    let same : pixel (drop (y * row_len width) raster) x ≡ pixel bits x = ap (λ (l : List ℕ). pixel l x) here ∙ front_pixel bits rest x (omega arith) in
+    c.pixels x
+    ∙ ap (λ (b : Bool). cond b (pixel bits x) 0) (lt-ltb x width lt)
+    ∙ black_bit (pixel bits x) (bit_at-lt (get_or bits (x / 8) 0) (7 - x % 8))
+    ∙ ap (λ (n : ℕ). cond (eqb n 1) 1 0) (sym same))
 
 pub one_more_row : {Sink : Type 0} (given : Sink → List ℕ → Sink → Type 0) (old middle new : SourceView) (width height y : ℕ) (start sink next : Sink)
-    → IsGiving given old middle width height y start sink → TakesRow given width middle new sink next → IsGiving given old new width height (y + 1) start next
-one_more_row given old middle new width height y start sink next g row = record {
+    → IsGiving given old middle width height y start sink → y < height → TakesRow given width middle new sink next → IsGiving given old new width height (y + 1) start next
+one_more_row given old middle new width height y start sink next g below row = record {
   part = g.part ++ row.bits;
   took = took_more old middle new g.part row.bits g.took row.took;
   len = length-append g.part row.bits ∙ omega (arith, g.len, row.len);
@@ -77,7 +66,7 @@ one_more_row given old middle new width height y start sink next g row = record 
       let Q : List ℕ → Type 0 = λ l. AfterRows given (raster_page width height l) y start sink in
       let before : AfterRows given (raster_page width height ((g.part ++ row.bits) ++ rest)) y start sink = subst Q (sym (append_assoc g.part row.bits rest)) (g.rows (row.bits ++ rest)) in
       let e : suc y ≡ y + 1 = omega arith in
-      subst P e (sink, row.cleared, before, cleared_is_row width height y g.part row.bits rest row.cleared g.len row.len row.is_cleared, row.gives);
+      subst P e (sink, row.cleared, before, cleared_is_row width height y g.part row.bits rest row.cleared below g.len row.len row.is_cleared, row.gives);
 }
 
 -- a raster takes few bytes
@@ -146,18 +135,19 @@ all_rows given old now width height y start end before sink g e size short is =
     }
 
 -- the rows given before one was refused are top rows
-pub rows_stop : {Sink : Type 0} (given : Sink → List ℕ → Sink → Type 0) (unchanged : Sink → Sink → Type 0) (old now : SourceView) (width height y : ℕ) (start sink last : Sink)
-    → IsGiving given old now width height y start sink → Stays unchanged sink last → GivenTopRows given unchanged Raw width height old start last
-rows_stop given unchanged old now width height y start sink last g stays =
-    let a = all_left old now g.part g.took in
-    let Q : List ℕ → Type 0 = λ l. AfterRows given (raster_page width height l) y start sink in
+pub rows_stop : {Sink : Type 0} (given : Sink → List ℕ → Sink → Type 0) (unchanged : Sink → Sink → Type 0) (old middle new : SourceView) (width height y start : ℕ) (first sink last : Sink)
+    (fault : PageFault) → IsGiving given old middle width height y first sink → y ≤ height → Stays unchanged sink last → Stopped middle new (start + y * row_len width) fault
+    → GivenTopRows given unchanged Raw width height start old new first last fault
+rows_stop given unchanged old middle new width height y start first sink last fault g few stays stop =
+    let P : ℕ → Type 0 = λ n. StandsBehind (start + n) fault in
+    let Q : List ℕ → Type 0 = λ l. AfterRows given (raster_page width height l) y first sink in
     record {
-      behind = g.part ++ a.0;
-      all = a.1;
-      count = y;
       page = raster_page width height g.part;
-      whole = (g.part, a.0, refl, omega (arith, g.len), refl);
-      top = sink;
-      rows = subst Q (append-nil g.part) (g.rows []);
-      stays = stays;
+      raster = g.part;
+      rest = stop.0;
+      took = took_more old middle new g.part stop.0 g.took stop.1;
+      place = subst P (sym g.len) stop.2;
+      width_is = refl;
+      height_is = refl;
+      top = record { count = y; few = few; spelled = (g.len, refl); top = sink; rows = subst Q (append-nil g.part) (g.rows []); stays = stays };
     }

@@ -50,11 +50,3 @@ at_end P old (Some ys) taken took end holds =
 -- what holds of all bytes, taken to the end, holds of what was left
 pub of_end : (P : List ℕ → Type 0) (old new : SourceView) (taken : List ℕ) → TookAll old new taken → P taken → IfSome old.left P
 of_end P old new taken took holds = at_end P old.left new.left taken took.took took.end.nothing holds
-
-known_rest : (old now : Option (List ℕ)) (taken : List ℕ) → old ≡ prepend_known taken now → (rest : List ℕ) × IfSome old (λ bytes. bytes ≡ taken ++ rest)
-known_rest old None taken took = ([], subst_known (λ bytes. bytes ≡ taken ++ []) old None took tt)
-known_rest old (Some ys) taken took = (ys, subst_known (λ bytes. bytes ≡ taken ++ ys) old (Some (taken ++ ys)) took refl)
-
--- all that was left is what was taken and what is left now, where that is told
-pub all_left : (old now : SourceView) (taken : List ℕ) → Took old now taken → (rest : List ℕ) × IfSome old.left (λ bytes. bytes ≡ taken ++ rest)
-all_left old now taken took = known_rest old.left now.left taken took

@@ -1,5 +1,5 @@
 -- A page is read exactly where the input spells one, and each refusal is the fault of the input.
-use Rattle.std.proofs.Common.{◌≡◌, ℕ, ◌+◌, ◌*◌, ◌⊎◌, ◌<◌, ◌≤◌, true, false, List, [], ◌∷◌, ◌++◌, length, Option, Some, None, Result, Ok, Err, refl, sym, ap, subst, ◌∙◌, append_assoc, append-nil, inl, inr, arith}
+use Rattle.std.proofs.Common.{◌≡◌, ℕ, ◌+◌, ◌⊎◌, ◌<◌, ◌≤◌, true, false, List, [], ◌∷◌, ◌++◌, length, Option, Some, None, Result, Ok, Err, refl, sym, ap, subst, ◌∙◌, append_assoc, append-nil, inl, inr, arith}
 use Rattle.std.specs.Prelude.{IfSome, IfOk, IfErr, IsErr, IsOkUnless}
 use Rattle.std.proofs.lemmas.List.{length-append}
 use Rattle.std.specs.Io.KnownBytes.{prepend_known, IsAtEnd}
@@ -10,19 +10,19 @@ use Rattle.pbm_reader.specs.declared.fault.PageFault.{PageFault}
 use Rattle.pbm_reader.specs.declared.fault.PageFault.TheVariants as faults
 use Rattle.pbm_reader.specs.declared.form.Form.{Form}
 use Rattle.pbm_reader.specs.declared.form.Form.TheVariants.{Plain, Raw}
-use Rattle.pbm_reader.specs.Page.{Page, IsPageSize, row_len}
-use Rattle.pbm_reader.specs.Spelling.{IsHeader, IsRaster, MayFollow, SpellsRows, IsPage, pixels_page, raster_page, Spells}
+use Rattle.packed_rows.specs.Page.{Page, IsPageSize}
+use Rattle.pbm_reader.specs.Spelling.{IsHeader, IsRaster, MayFollow, SpellsRows, IsPage, Spells}
 use Rattle.pbm_reader.specs.Fault.{IsFrontOf, HasPageHeader, HasFault, IsTruncated, IsPixelFault, IsTrailing, IsInputTooLong}
-use Rattle.pbm_reader.specs.Given.{AfterRows, AfterFault, HasTopRows}
-use Rattle.pbm_reader.specs.Raster.{RasterFails, TookRaster, GivenTopRows}
+use Rattle.pbm_reader.specs.Given.{AfterRows}
+use Rattle.pbm_reader.specs.Raster.{RasterFails, TookRaster}
 use Rattle.pbm_reader.specs.Tail.{TailFails, TookTail}
 use Rattle.layout_outside.specs.Views.{SourceView}
 use Rattle.layout_outside.specs.Taken.{Took, TookAll}
 use Rattle.pbm_reader.specs.Header.{TookHeader}
 use Rattle.pbm_reader.specs.Reading.{HasReadCause, ReadsPage, Refuses}
-use Rattle.pbm_reader.proofs.Taken.{took_more, took_all, prepend_nothing, of_all, of_end, all_left}
+use Rattle.pbm_reader.proofs.Taken.{took_more, took_all, prepend_nothing, of_all, of_end}
 use Rattle.pbm_reader.proofs.Faults.{raster_ends}
-use Rattle.pbm_reader.proofs.Judged.{one_fault, page_has_no_fault, page_undecided, cut_undecided, long_fault}
+use Rattle.pbm_reader.proofs.OneFault.{one_fault, page_has_no_fault, page_undecided, cut_undecided, long_fault}
 
 -- ---- refusals in the raster
 
@@ -194,72 +194,6 @@ tail_refuses given old middle later new header end empty after (faults.TooLarge 
 tail_refuses given old middle later new header end empty after (faults.Truncated at) t r f = absurd f
 tail_refuses given old middle later new header end empty after (faults.Pixel at) t r f = absurd f
 tail_refuses given old middle later new header end empty after faults.Memory t r f = absurd f
-
--- ---- the sink after a fault
-
--- top rows of the raster are top rows of the page
-pub top_rows : {Sink : Type 0} (begun : Sink → ℕ → ℕ → Sink → Type 0) (given : Sink → List ℕ → Sink → Type 0) (unchanged : Sink → Sink → Type 0)
-    (old middle : SourceView) (header : Header) (before empty after : Sink) → TookHeader old middle header → begun before header.size.width header.size.height empty
-    → GivenTopRows given unchanged header.form header.size.width header.size.height middle empty after → AfterFault begun given unchanged old.left before after
-top_rows begun given unchanged old middle header before empty after t b g =
-    inr (record {
-      form = header.form;
-      width = header.size.width;
-      height = header.size.height;
-      header = t.bytes;
-      behind = g.behind;
-      input = all_behind old.left middle.left t.bytes g.behind t.took g.all;
-      is_header = t.is_header;
-      empty = empty;
-      begins = b;
-      count = g.count;
-      page = g.page;
-      whole = g.whole;
-      top = g.top;
-      rows = g.rows;
-      stays = g.stays;
-    })
-  where
-    all_behind : (old middle : Option (List ℕ)) (taken behind : List ℕ) → old ≡ prepend_known taken middle → IfSome middle (λ bytes. bytes ≡ behind) → IfSome old (λ input. input ≡ taken ++ behind)
-    all_behind None middle taken behind took all = tt
-    all_behind (Some input) None taken behind took all = absurd cc
-    all_behind (Some input) (Some bytes) taken behind took all = some_is input (taken ++ bytes) took ∙ ap (λ (l : List ℕ). taken ++ l) all
-      where
-        some_is : (a b : List ℕ) → (let o : Option (List ℕ) = Some a in o) ≡ Some b → a ≡ b
-        some_is a b e = cc
-
-all_top : (form : Form) (page : Page) (width height : ℕ) (raster rest : List ℕ) → page.width ≡ width → page.height ≡ height → SpellsRows form page raster
-    → HasTopRows form width height (raster ++ rest) height page
-all_top Plain page width height raster rest wide high rows =
-    let same : height * width ≡ page.height * page.width = sym (ap (λ (n : ℕ). n * page.width) high ∙ ap (λ (n : ℕ). height * n) wide) in (
-      rows.0,
-      raster,
-      rest,
-      refl,
-      rows.2,
-      omega (arith, rows.1, same),
-      rows.3 ∙ ap (λ (n : ℕ). pixels_page n page.height rows.0) wide ∙ ap (λ (n : ℕ). pixels_page width n rows.0) high,
-    )
-all_top Raw page width height raster rest wide high rows =
-    let same : height * row_len width ≡ page.height * row_len page.width = sym (ap (λ (n : ℕ). n * row_len page.width) high ∙ ap (λ (n : ℕ). height * row_len n) wide) in
-    (raster, rest, refl, omega (arith, rows.0, same), rows.1 ∙ ap (λ (n : ℕ). raster_page n page.height raster) wide ∙ ap (λ (n : ℕ). raster_page width n raster) high)
-
--- all rows were given, and then the page was refused
-pub all_rows_given : {Sink : Type 0} (given : Sink → List ℕ → Sink → Type 0) (unchanged : Sink → Sink → Type 0) (old now : SourceView) (header : Header) (end : ℕ) (empty after : Sink)
-    → TookRaster given old now header.form header.size.width header.size.height header.len end empty after
-    → GivenTopRows given unchanged header.form header.size.width header.size.height old empty after
-all_rows_given given unchanged old now header end empty after r =
-    let a = all_left old now r.raster r.took in
-    record {
-      behind = r.raster ++ a.0;
-      all = a.1;
-      count = header.size.height;
-      page = r.page;
-      whole = all_top header.form r.page header.size.width header.size.height r.raster a.0 r.width_is r.height_is r.rows;
-      top = after;
-      rows = r.gives;
-      stays = inl refl;
-    }
 
 -- ---- a page
 

@@ -5,7 +5,7 @@ use Rattle.pbm_reader.specs.declared.fault.PageFault.{PageFault}
 use Rattle.pbm_reader.specs.declared.fault.PageFault.TheVariants as faults
 use Rattle.pbm_reader.specs.declared.form.Form.{Form}
 use Rattle.pbm_reader.specs.declared.form.Form.TheVariants.{Plain}
-use Rattle.pbm_reader.specs.Page.{IsPageSize}
+use Rattle.packed_rows.specs.Page.{IsPageSize}
 use Rattle.pbm_reader.specs.Spelling.{IsSomeHeader, HasHeader, IsRaster, MayFollow}
 
 -- the bytes begin with this front
@@ -80,7 +80,8 @@ pub record IsTooLarge (input : List ℕ) (wide high : ℕ) : Type 0 where
 -- why no page has the sizes that a header told
 abbrev pub IsSizeFault : ℕ → ℕ → PageFault → Type 0
 IsSizeFault width height faults.ZeroSize = (width ≡ 0) ⊎ (height ≡ 0)
-IsSizeFault width height (faults.TooLarge wide high) = (0 < width) × (0 < height) × (IsPageSize width height → ⊥) × (wide ≡ width) × (high ≡ height)
+IsSizeFault width height (faults.TooLarge wide high) =
+    (0 < width) × (0 < height) × (IsPageSize width height → ⊥) × (wide ≡ width) × (high ≡ height)
 IsSizeFault width height fault = ⊥
 
 -- the input begins with a header whose sizes a page can have, and these bytes are behind it

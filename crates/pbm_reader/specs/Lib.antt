@@ -1,5 +1,5 @@
 -- What bytes spell a page, what is wrong with bytes that spell none, and what a reader does with both.
-pub mod Page
+pub use Rattle.packed_rows.specs.Page
 pub mod Spelling
 pub mod Fault
 pub mod Given

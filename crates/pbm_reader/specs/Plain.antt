@@ -5,7 +5,7 @@ use Rattle.pbm_reader.specs.declared.fault.PageFault.{PageFault}
 use Rattle.pbm_reader.specs.declared.fault.PageFault.TheVariants as faults
 use Rattle.pbm_reader.specs.declared.plain.PixelStep.{PixelStep}
 use Rattle.pbm_reader.specs.declared.plain.PixelStep.TheVariants.{Blank, Found, Wrong}
-use Rattle.pbm_reader.specs.Page.{pixel, row_len}
+use Rattle.packed_rows.specs.Page.{pixel, row_len}
 use Rattle.pbm_reader.specs.Spelling.{is_white, is_line_end, AreInLine, IsBlank, SpellsPixels}
 use Rattle.layout_outside.specs.Taken.{Took, TookAll}
 use Rattle.layout_outside.specs.Views.{SourceView}
@@ -54,7 +54,7 @@ PixelsFail old new start count faults.InputTooLong =
     (in_comment : Bool) × (bytes : List ℕ) × (byte : ℕ) × Took old new (bytes ++ byte ∷ []) × PixelsBegun count in_comment bytes × (start + length bytes ≡ MAX_INPUT)
 PixelsFail old new start count faults.ReadFault =
     (in_comment : Bool) × (bytes : List ℕ) × Took old new bytes × PixelsBegun count in_comment bytes × (start + length bytes ≤ MAX_INPUT)
-PixelsFail old new start count faults.Memory = ⊤
+PixelsFail old new start count faults.Memory = (bytes : List ℕ) × Took old new bytes
 PixelsFail old new start count fault = ⊥
 
 -- the packed bytes have these pixels, and then only white ones

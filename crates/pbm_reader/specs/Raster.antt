@@ -1,21 +1,16 @@
 -- Reading the rows of a page.
-use Rattle.std.specs.Prelude.{◌≡◌, ◌<◌, ◌≤◌, ℕ, ◌+◌, List, [], ◌∷◌, ◌++◌, length, Option, IfSome, ⊤, nat_lt, if◌then◌else◌}
+use Rattle.std.specs.Prelude.{◌≡◌, ◌<◌, ◌≤◌, ℕ, ◌+◌, List, [], ◌∷◌, ◌++◌, length, ⊤}
 use Rattle.pbm_reader.specs.declared.limits.TheConstants.{MAX_INPUT}
 use Rattle.pbm_reader.specs.declared.fault.PageFault.{PageFault}
 use Rattle.pbm_reader.specs.declared.fault.PageFault.TheVariants as faults
 use Rattle.pbm_reader.specs.declared.form.Form.{Form}
 use Rattle.pbm_reader.specs.declared.form.Form.TheVariants.{Plain}
-use Rattle.pbm_reader.specs.Page.{Page, pixel, row_len}
+use Rattle.packed_rows.specs.Page.{Page, row_len, IsCleared}
 use Rattle.pbm_reader.specs.Spelling.{IsRaster, SpellsRows}
 use Rattle.pbm_reader.specs.Fault.{IsFrontOf}
-use Rattle.pbm_reader.specs.Given.{AfterRows, HasTopRows, Stays}
+use Rattle.pbm_reader.specs.Given.{AfterRows, IsGivenTop, StandsBehind}
 use Rattle.layout_outside.specs.Taken.{Took, TookAll}
 use Rattle.layout_outside.specs.Views.{SourceView}
-
--- a row whose padding bits are cleared
-pub record IsCleared (width : ℕ) (old new : List ℕ) : Type 0 where
-  pub len : length new ≡ length old
-  pub pixels : (x : ℕ) → pixel new x ≡ (if nat_lt x width then pixel old x else 0)
 
 -- a row was taken from the input, and the sink was given it with its padding bits cleared
 pub record TakesRow {Sink : Type 0} (given : Sink → List ℕ → Sink → Type 0) (width : ℕ) (old new : SourceView) (before after : Sink) : Type 0 where
@@ -30,7 +25,7 @@ pub record TakesRow {Sink : Type 0} (given : Sink → List ℕ → Sink → Type
 abbrev pub BytesFail : SourceView → SourceView → ℕ → ℕ → PageFault → Type 0
 BytesFail old new at len (faults.Truncated end) = (part : List ℕ) × TookAll old new part × (length part < len) × (end ≡ at + length part)
 BytesFail old new at len faults.ReadFault = (part : List ℕ) × Took old new part × (length part < len)
-BytesFail old new at len faults.Memory = ⊤
+BytesFail old new at len faults.Memory = (part : List ℕ) × Took old new part
 BytesFail old new at len fault = ⊥
 
 -- the raster of a page was taken, up to this offset, and the sink was given its rows
@@ -59,13 +54,15 @@ RasterFails old new form width height start faults.ReadFault =
 RasterFails old new form width height start faults.Memory = ⊤
 RasterFails old new form width height start fault = ⊥
 
--- the first rows were given, each whole in the bytes that were left; the last call may have been refused
-pub record GivenTopRows {Sink : Type 0} (given : Sink → List ℕ → Sink → Type 0) (unchanged : Sink → Sink → Type 0) (form : Form) (width height : ℕ) (source : SourceView) (old new : Sink) : Type 0 where
-  pub behind : List ℕ
-  pub all : IfSome source.left (λ bytes. bytes ≡ behind)
-  pub count : ℕ
+-- the sink was given top rows of a page of this size, which the bytes that were taken from this offset on spell whole, and the fault
+-- stands behind them
+pub record GivenTopRows {Sink : Type 0} (given : Sink → List ℕ → Sink → Type 0) (unchanged : Sink → Sink → Type 0)
+    (form : Form) (width height start : ℕ) (old new : SourceView) (before after : Sink) (fault : PageFault) : Type 0 where
   pub page : Page
-  pub whole : HasTopRows form width height behind count page
-  pub top : Sink
-  pub rows : AfterRows given page count old top
-  pub stays : Stays unchanged top new
+  pub raster : List ℕ
+  pub rest : List ℕ
+  pub took : Took old new (raster ++ rest)
+  pub place : StandsBehind (start + length raster) fault
+  pub width_is : page.width ≡ width
+  pub height_is : page.height ≡ height
+  pub top : IsGivenTop given unchanged form page raster before after

@@ -1,9 +1,11 @@
 -- What bytes spell a page: Netpbm's PBM with its comments, in its plain and in its raw form.
-use Rattle.std.specs.Prelude.{◌≡◌, ◌≤◌, ◌<◌, ◌⊎◌, ℕ, ◌+◌, ◌-◌, ◌*◌, Bool, ◌&&◌, ◌||◌, ◌==◌, IsTrue, IsFalse, nat_le, List, [], ◌∷◌, ◌++◌, length, drop, slice_index, nat_eq, codes}
+use Rattle.std.specs.Prelude.{◌≡◌, ◌≤◌, ◌<◌, ◌⊎◌, ℕ, ◌+◌, ◌-◌, ◌*◌, Bool, ◌&&◌, ◌||◌, ◌==◌}
+use Rattle.std.specs.Prelude.{IsTrue, IsFalse, nat_le, List, [], ◌∷◌, ◌++◌, length, drop, slice_index, nat_eq, codes}
 use Rattle.std.specs.List.{concat}
+use Rattle.pbm_reader.specs.declared.limits.TheConstants.{MAX_HEADER, MAX_INPUT}
 use Rattle.pbm_reader.specs.declared.form.Form.{Form}
 use Rattle.pbm_reader.specs.declared.form.Form.TheVariants.{Plain, Raw}
-use Rattle.pbm_reader.specs.Page.{Page, IsPageSize, row_len, pixel}
+use Rattle.packed_rows.specs.Page.{Page, page_with, IsPageSize, row_len, pixel}
 
 -- a white byte: a space, a tab, a carriage return or a line feed
 abbrev pub is_white : ℕ → Bool
@@ -91,7 +93,7 @@ IsSomeHeader bytes = (form : Form) × (width : ℕ) × (height : ℕ) × IsHeade
 pub record HasHeader (input header behind : List ℕ) (form : Form) (width height : ℕ) : Type 0 where
   pub whole : input ≡ header ++ behind
   pub is_header : IsHeader header form width height
-  pub short : length header ≤ 65536
+  pub short : length header ≤ MAX_HEADER
 
 -- the characters of these pixels, each behind any number of white bytes and comments
 abbrev pub SpellsPixels : List ℕ → List ℕ → Type 0
@@ -106,11 +108,11 @@ IsRaster Raw width height bytes = length bytes ≡ height * row_len width
 
 -- the page of this size whose rows follow one another in the pixels
 abbrev pub pixels_page : ℕ → ℕ → List ℕ → Page
-pixels_page width height pixels = record { width = width; height = height; is_black = λ x y. nat_eq (slice_index pixels (y * width + x)) 1 }
+pixels_page width height pixels = page_with width height (λ x y. nat_eq (slice_index pixels (y * width + x)) 1)
 
 -- the page of this size whose rows follow one another in the bytes of the raster
 abbrev pub raster_page : ℕ → ℕ → List ℕ → Page
-raster_page width height raster = record { width = width; height = height; is_black = λ x y. nat_eq (pixel (drop (y * row_len width) raster) x) 1 }
+raster_page width height raster = page_with width height (λ x y. nat_eq (pixel (drop (y * row_len width) raster) x) 1)
 
 -- what may stand behind a raster: nothing, and in the plain form a white byte and any bytes
 abbrev pub MayFollow : Form → List ℕ → Type 0
@@ -118,11 +120,16 @@ MayFollow form [] = Unit {0}
 MayFollow Plain (byte ∷ bytes) = IsTrue (is_white byte)
 MayFollow Raw (byte ∷ bytes) = ⊥
 
+-- the bytes are so many rows of the page from its top; the rows under them are white
+abbrev pub SpellsTop : Form → ℕ → Page → List ℕ → Type 0
+SpellsTop Plain count page bytes =
+    (pixels : List ℕ) × (length pixels ≡ count * page.width) × SpellsPixels pixels bytes
+    × (page ≡ pixels_page page.width page.height pixels)
+SpellsTop Raw count page bytes = (length bytes ≡ count * row_len page.width) × (page ≡ raster_page page.width page.height bytes)
+
 -- the raster's rows are those of the page
 abbrev pub SpellsRows : Form → Page → List ℕ → Type 0
-SpellsRows Plain page raster =
-    (pixels : List ℕ) × (length pixels ≡ page.height * page.width) × SpellsPixels pixels raster × (page ≡ pixels_page page.width page.height pixels)
-SpellsRows Raw page raster = (length raster ≡ page.height * row_len page.width) × (page ≡ raster_page page.width page.height raster)
+SpellsRows form page raster = SpellsTop form page.height page raster
 
 -- the bytes spell the page: a header with sizes that a page can have, a raster of its form and size, and what may follow it,
 -- 268,435,456 bytes at most, which a page in the raw form never has
@@ -135,7 +142,7 @@ pub record Spells (bytes : List ℕ) (page : Page) : Type 0 where
   pub size : IsPageSize page.width page.height
   pub rows : SpellsRows form page raster
   pub follows : MayFollow form tail
-  pub short : length bytes ≤ 268435456
+  pub short : length bytes ≤ MAX_INPUT
 
 -- the bytes spell some page
 abbrev pub IsPage : List ℕ → Type 0

@@ -8,7 +8,9 @@ use layout_outside::Failed;
 /// The size of a page in pixels.
 #[derive(Debug, Clone, Copy, PartialEq, Eq, Drop)]
 pub struct Size {
+    /// From 1 to `MAX_SIDE`.
     pub width: u16,
+    /// From 1 to `MAX_SIDE`.
     pub height: u16,
 }
 

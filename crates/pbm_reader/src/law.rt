@@ -1,7 +1,7 @@
-//! The law of the format: what the definitions say of all byte lists at once.
+//! The laws of the format: what the definitions say of all byte lists at once.
 ghost use Rattle.std.specs.Prelude.{◌≡◌, ◌⊎◌, ℕ, List};
 ghost use Rattle.pbm_reader.specs.declared.fault.PageFault.{PageFault};
-ghost use Rattle.pbm_reader.specs.Page.{Page};
+ghost use Rattle.packed_rows.specs.Page.{HasPicture, IsClipped, Page};
 ghost use Rattle.pbm_reader.specs.Spelling.{IsPage, Spells};
 ghost use Rattle.pbm_reader.specs.Fault.{HasFault};
 
@@ -12,4 +12,12 @@ pub fn each_input_is_judged()
     ensures one_page { (input : List ℕ) (p q : Page) → Spells input p → Spells input q → p ≡ q }
     ensures one_fault { (input : List ℕ) (f g : PageFault) → HasFault input f → HasFault input g → f ≡ g }
     ensures never_both { (input : List ℕ) (page : Page) (fault : PageFault) → Spells input page → HasFault input fault → ⊥ }
+{}
+
+/// Two inputs that spell the same picture spell the same page, whatever their form, comments, white
+/// bytes and padding bits are: no place outside of a page is black. It is a law of the definitions,
+/// and does nothing.
+pub fn equal_pictures_are_one_page()
+    ensures clipped { (input : List ℕ) (page : Page) → Spells input page → IsClipped page }
+    ensures one_page { (a b : List ℕ) (p q : Page) → Spells a p → Spells b q → HasPicture p q → p ≡ q }
 {}

@@ -17,7 +17,7 @@ mod tail;
 mod tests;
 
 pub use fault::{PageFault, Size};
-pub use law::each_input_is_judged;
+pub use law::{each_input_is_judged, equal_pictures_are_one_page};
 pub use limits::{MAX_HEADER, MAX_INPUT, MAX_NUMBER, MAX_PIECE};
 pub use page::read_page;
 pub use row_sink::RowSink;

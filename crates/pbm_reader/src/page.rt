@@ -25,7 +25,7 @@ use std::alloc::Global;
 /// rows to the sink from the top. Memory is taken for one piece of the input and one row.
 ///
 /// `begin` is called once, when the header is whole, and `row` once for each row. Where the page is
-/// refused the sink was given nothing, or top rows that are whole in the input.
+/// refused the sink was given nothing, or top rows that the bytes before the fault spell whole.
 pub fn read_page<S: Source, R: RowSink>(
     alloc: Global,
     src: &mut S,
@@ -35,8 +35,8 @@ pub fn read_page<S: Source, R: RowSink>(
     ensures page { IfOk result (ReadsPage R.begun R.given (S.view src.old) (S.view src.new) rows.old rows.new) }
     // The input has just this fault; or a read failed, and the bytes taken decide no fault.
     ensures fault { IfErr result (Refuses (S.view src.old) (S.view src.new)) }
-    // After a fault the sink was given nothing, or top rows of the page that the input begins.
-    ensures top { OnErr result (AfterFault R.begun R.given R.unchanged (S.view src.old).left rows.old rows.new) }
+    // After a fault the sink was given nothing, or top rows that the bytes before the fault spell whole.
+    ensures top { IfErr result (AfterFault R.begun R.given R.unchanged (S.view src.old) (S.view src.new) rows.old rows.new) }
     ensures cause { HasReadCause (S.view src.old) (S.view src.new) result }
     // Where the input spells a page and no read failed, the page is read unless memory is refused.
     ensures complete { (input : List ℕ) → (S.view src.old).left ≡ Some input → IsPage input
@@ -60,7 +60,8 @@ fn read_from<S: Source, R: RowSink>(
     ensures page { IfOk result (ReadsPage R.begun R.given feed.old.source
         feed.new.source rows.old rows.new) }
     ensures fault { IfErr result (Refuses feed.old.source feed.new.source) }
-    ensures top { OnErr result (AfterFault R.begun R.given R.unchanged feed.old.source.left rows.old rows.new) }
+    ensures top { IfErr result (AfterFault R.begun R.given R.unchanged feed.old.source
+        feed.new.source rows.old rows.new) }
     ensures drained { result ≡ Err PageFault.ReadFault → feed.new.unread ≡ [] }
     ensures same { feed.new.borrow ≡ feed.old.borrow }
     ensures cause { HasReadCause feed.old.source feed.new.source result }
@@ -88,8 +89,8 @@ fn read_raster<S: Source, R: RowSink>(
         feed.new.source header.form header.size.width header.size.height header.len end rows.old rows.new) }
     ensures fault { IfErr result (RasterFails feed.old.source
         feed.new.source header.form header.size.width header.size.height header.len) }
-    ensures top { OnErr result (GivenTopRows R.given R.unchanged header.form header.size.width header.size.height
-        feed.old.source rows.old rows.new) }
+    ensures top { IfErr result (GivenTopRows R.given R.unchanged header.form header.size.width header.size.height header.len
+        feed.old.source feed.new.source rows.old rows.new) }
     ensures drained { result ≡ Err PageFault.ReadFault → feed.new.unread ≡ [] }
     ensures same { feed.new.borrow ≡ feed.old.borrow }
     ensures cause { HasReadCause feed.old.source feed.new.source result }

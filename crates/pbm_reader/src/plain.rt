@@ -12,9 +12,9 @@ use crate::feed::Feed;
 use crate::form::{is_line_end, is_white};
 use crate::header::Header;
 use crate::limits::{MAX_HEADER, MAX_INPUT};
-use crate::raster::row_len;
 use crate::row_sink::RowSink;
 use layout_outside::Source;
+use packed_rows::{row_len, set_pixel, whiten};
 use std::alloc::Global;
 
 /// A pixel, and the offset behind its character.
@@ -91,7 +91,7 @@ fn put_pixel(row: &mut [u8], x: u16, is_black: bool)
     ensures pixels { (k : ℕ) → pixel row.new k ≡ (if k == x then bit_of is_black else pixel row.old k) }
 {
     if is_black {
-        row[usize::from(x / 8)] |= 1 << (7 - x % 8);
+        set_pixel(row, x);
     }
 }
 
@@ -114,7 +114,7 @@ fn fill_pixels<S: Source>(
     ensures same { feed.new.borrow ≡ feed.old.borrow }
     ensures cause { HasReadCause feed.old.source feed.new.source result }
 {
-    row.fill(0);
+    whiten(row);
     let mut at = start;
     for x in 0..width {
         let pixel = next_pixel(feed, at)?;
@@ -169,8 +169,8 @@ pub(crate) fn read_plain_raster<S: Source, R: RowSink>(
         feed.new.source Plain header.size.width header.size.height header.len end rows.old rows.new) }
     ensures fault { IfErr result (RasterFails feed.old.source
         feed.new.source Plain header.size.width header.size.height header.len) }
-    ensures top { OnErr result (GivenTopRows R.given R.unchanged Plain header.size.width header.size.height
-        feed.old.source rows.old rows.new) }
+    ensures top { IfErr result (GivenTopRows R.given R.unchanged Plain header.size.width header.size.height header.len
+        feed.old.source feed.new.source rows.old rows.new) }
     ensures drained { result ≡ Err PageFault.ReadFault → feed.new.unread ≡ [] }
     ensures same { feed.new.borrow ≡ feed.old.borrow }
     ensures cause { HasReadCause feed.old.source feed.new.source result }

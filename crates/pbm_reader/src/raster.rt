@@ -3,9 +3,9 @@ ghost use Rattle.std.specs.Prelude.{◌≡◌, ◌<◌, ◌≤◌, ◌+◌, ◌*
 ghost use Rattle.pbm_reader.specs.Reading.{HasReadCause};
 ghost use Rattle.layout_outside.specs.Taken.{Took};
 ghost use Rattle.pbm_reader.specs.Given.{Stays};
-ghost use Rattle.pbm_reader.specs.Page.{IsPageSize, row_len};
+ghost use Rattle.packed_rows.specs.Page.{IsCleared, IsPageSize, row_len};
 ghost use Rattle.pbm_reader.specs.declared.form.Form.TheVariants.{Raw};
-ghost use Rattle.pbm_reader.specs.Raster.{IsCleared, BytesFail, GivenTopRows, RasterFails, TakesRow, TookRaster};
+ghost use Rattle.pbm_reader.specs.Raster.{BytesFail, GivenTopRows, RasterFails, TakesRow, TookRaster};
 
 use crate::fault::PageFault;
 use crate::feed::Feed;
@@ -13,26 +13,8 @@ use crate::header::Header;
 use crate::limits::MAX_HEADER;
 use crate::row_sink::RowSink;
 use layout_outside::Source;
+use packed_rows::{clear_padding, row_len};
 use std::alloc::Global;
-
-/// How many bytes a row of this width takes.
-pub(crate) fn row_len(width: u16) -> usize
-    ensures { result ≡ row_len width }
-{
-    (usize::from(width) + 7) / 8
-}
-
-/// Clears the padding bits of a row.
-fn clear_padding(row: &mut [u8], width: u16)
-    requires { length row.old ≡ row_len width }
-    ensures { IsCleared width row.old row.new }
-{
-    let len = row.len();
-    if len > 0 {
-        let padding = (len * 8 - usize::from(width)) as u32;
-        row[len - 1] = (row[len - 1] >> padding) << padding;
-    }
-}
 
 /// Fills a row with the next bytes, which stand at this offset, and clears its padding bits.
 fn fill_row<S: Source>(
@@ -105,8 +87,8 @@ pub(crate) fn read_raw_raster<S: Source, R: RowSink>(
         feed.new.source Raw header.size.width header.size.height header.len end rows.old rows.new) }
     ensures fault { IfErr result (RasterFails feed.old.source
         feed.new.source Raw header.size.width header.size.height header.len) }
-    ensures top { OnErr result (GivenTopRows R.given R.unchanged Raw header.size.width header.size.height
-        feed.old.source rows.old rows.new) }
+    ensures top { IfErr result (GivenTopRows R.given R.unchanged Raw header.size.width header.size.height header.len
+        feed.old.source feed.new.source rows.old rows.new) }
     ensures drained { result ≡ Err PageFault.ReadFault → feed.new.unread ≡ [] }
     ensures same { feed.new.borrow ≡ feed.old.borrow }
     ensures cause { HasReadCause feed.old.source feed.new.source result }

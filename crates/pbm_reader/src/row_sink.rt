@@ -1,6 +1,6 @@
 //! Where the rows of a page go.
 ghost use Rattle.std.specs.Prelude.{◌≡◌, ◌<◌, ◌+◌, ℕ, List, OnOk, OnErr};
-ghost use Rattle.pbm_reader.specs.Page.{IsPackedRow, IsPageSize};
+ghost use Rattle.packed_rows.specs.Page.{IsPackedRow, IsPageSize};
 
 use layout_limits::OutOfMemory;
 

@@ -4,7 +4,9 @@ ghost use Rattle.std.specs.Prelude.{◌≡◌, ◌-◌, ◌<◌, ◌≤◌};
 mod judge;
 mod spaces;
 
-use crate::{PageFault, RowSink, Size, each_input_is_judged, read_page};
+use crate::{
+    PageFault, RowSink, Size, each_input_is_judged, equal_pictures_are_one_page, read_page,
+};
 use judge::judged;
 use layout_limits::OutOfMemory;
 use layout_outside::MemSource;
@@ -437,6 +439,7 @@ fn every_prefix_and_every_changed_byte_is_judged_as_the_plain_program_does(
 }
 
 #[test]
-fn the_law_can_be_called() {
+fn the_laws_can_be_called() {
     each_input_is_judged();
+    equal_pictures_are_one_page();
 }

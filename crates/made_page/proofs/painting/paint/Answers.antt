@@ -1,7 +1,7 @@
 use Rattle.std.proofs.Common.{◌≡◌, length, arith, ◌∙◌}
 use Rattle.page_runs.specs.Rows.{Given}
 use Rattle.made_page.specs.Made.{page_of_blocks}
-use Rattle.made_page.proofs.Rows.{row_of_page, row_more, all_given}
+use Rattle.made_page.proofs.Rows.{painted_row, row_more, all_given}
 use Rattle.made_page.proofs.painting.paint.Goals as goal
 
 pub loop-y-preserved : goal.loop-y-preserved
@@ -16,7 +16,7 @@ loop-y-preserved c =
       width = given.width_is ∙ l.invariant.width;
       height = given.height_is ∙ l.invariant.height;
       rows = omega (arith, given.rows_is, l.invariant.rows);
-      given = row_more page l.y c.begin.new.self l.page c.push_row.new.self bits l.invariant.given (row_of_page c.args.blocks.now l.y bits len c.put_row.ensures.pixels) given;
+      given = row_more page l.y c.begin.new.self l.page c.push_row.new.self bits l.invariant.given (painted_row c.args.blocks.now l.y bits (omega (arith, c.loop-y-test.true)) len c.put_row.ensures.pixels) given;
     }
 
 pub returns-clause-held : goal.returns-clause-held

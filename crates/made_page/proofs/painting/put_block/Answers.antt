@@ -1,5 +1,5 @@
 use Rattle.std.proofs.Common.{inl, inr}
-use Rattle.page_runs.specs.Page.{pixel}
+use Rattle.packed_rows.specs.Page.{pixel}
 use Rattle.made_page.proofs.Pixels.{block_here, block_elsewhere}
 use Rattle.made_page.proofs.painting.put_block.Goals.{else-block-y-via-then-block-y+else-y-block, else-block-y-via-else-block-y}
 use Rattle.made_page.proofs.painting.put_block.Goals as goal

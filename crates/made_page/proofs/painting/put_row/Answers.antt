@@ -1,12 +1,11 @@
 use Rattle.std.proofs.Common.{length, refl, ◌∙◌}
-use Rattle.page_runs.specs.Page.{pixel}
-use Rattle.made_page.proofs.Pixels.{row_white, one_block, all_blocks}
+use Rattle.packed_rows.specs.Page.{pixel}
+use Rattle.made_page.proofs.Pixels.{one_block, all_blocks}
 use Rattle.made_page.proofs.painting.put_row.Goals as goal
 
 pub loop-block-init : goal.loop-block-init
 loop-block-init c =
-    let filled = c.fill.ensures in
-    record { len = filled.len; pixels = row_white (length c.args.bits.now) c.fill.new.self filled.len (λ k d below. filled.clones k d below refl) }
+    record { len = c.whiten.ensures.len; pixels = c.whiten.ensures.pixels }
 
 pub loop-block-preserved : goal.loop-block-preserved
 loop-block-preserved c =

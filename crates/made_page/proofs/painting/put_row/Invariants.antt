@@ -1,6 +1,6 @@
 use Rattle.std.proofs.Common.{◌≡◌, ℕ, cond, length, take}
 use Rattle.std.specs.List.{list_any}
-use Rattle.page_runs.specs.Page.{pixel}
+use Rattle.packed_rows.specs.Page.{pixel}
 use Rattle.made_page.specs.Made.{has_place}
 use Rattle.made_page.proofs.painting.put_row.Given as goal
 

@@ -1,5 +1,5 @@
 use Rattle.std.proofs.Common.{refl, ◌∙◌, arith}
-use Rattle.page_runs.specs.Page.{pixel}
+use Rattle.packed_rows.specs.Page.{pixel}
 use Rattle.made_page.proofs.Pixels.{stretch_none, stretch_more, stretch_all}
 use Rattle.made_page.proofs.painting.put_stretch.Goals as goal
 
@@ -10,8 +10,8 @@ pub loop-x-preserved : goal.loop-x-preserved
 loop-x-preserved c =
     let l = c.loop-x in
     record {
-      len = c.put_pixel.ensures.len ∙ l.invariant.len;
-      pixels = λ k. stretch_more c.args.left l.x k (pixel c.args.bits.now k) (pixel l.bits k) (pixel c.put_pixel.new.bits k) l.auto.x (l.invariant.pixels k) (c.put_pixel.ensures.pixels k);
+      len = c.set_pixel.ensures.len ∙ l.invariant.len;
+      pixels = λ k. stretch_more c.args.left l.x k (pixel c.args.bits.now k) (pixel l.bits k) (pixel c.set_pixel.new.bits k) l.auto.x (l.invariant.pixels k) (c.set_pixel.ensures.pixels k);
       none = λ e. absurd (omega (arith, e, l.auto.x, c.loop-x-test.true));
     }
 

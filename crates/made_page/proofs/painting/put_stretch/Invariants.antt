@@ -1,5 +1,5 @@
 use Rattle.std.proofs.Common.{◌≡◌, ℕ, cond, leb, ltb, ◌&&◌, ◌≤◌, length}
-use Rattle.page_runs.specs.Page.{pixel}
+use Rattle.packed_rows.specs.Page.{pixel}
 use Rattle.made_page.proofs.painting.put_stretch.Given as goal
 
 -- The columns from the left one up to this one are black, and the others are as they were.

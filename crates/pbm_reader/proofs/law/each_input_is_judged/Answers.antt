@@ -1,4 +1,6 @@
-use Rattle.pbm_reader.proofs.Judged.{judged, one_page, one_fault, page_has_no_fault}
+use Rattle.pbm_reader.proofs.Judged.{judged}
+use Rattle.pbm_reader.proofs.OneFault.{one_fault, page_has_no_fault}
+use Rattle.pbm_reader.proofs.OnePage.{one_page}
 use Rattle.pbm_reader.proofs.law.each_input_is_judged.Goals as goal
 
 pub returns : goal.returns

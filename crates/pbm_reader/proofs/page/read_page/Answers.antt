@@ -1,6 +1,7 @@
 use Rattle.std.proofs.Common.{◌≡◌, [], ◌∙◌, rules}
 use Rattle.pbm_reader.specs.Feed.{with_unread}
 use Rattle.pbm_reader.proofs.Fed.{left_first, calm_fed}
+use Rattle.pbm_reader.proofs.TopRows.{top_from}
 use Rattle.pbm_reader.proofs.WholePage.{only_memory, only_fault}
 use Rattle.pbm_reader.proofs.page.read_page.Goals as goal
 
@@ -24,3 +25,12 @@ returns-clause-faulty g c =
     only_fault g.R.RowSink.begun g.R.RowSink.given first last c.args.rows.now c.read_from-result.new.rows c.read_from-result.result input fault
     c.read_from-result.ensures.page c.read_from-result.ensures.fault c.read_from-result.ensures.cause
     (left_first old first begins ∙ told) has (calm_fed old first last _ begins (search rules) calm)
+
+pub returns-clause-top : goal.returns-clause-top
+returns-clause-top g c =
+    let old = g.S.Source.view c.args.src.now in
+    let first = c.new-feed.result.source in
+    let last = c.read_from-result.new.feed.source in
+    let begins : first ≡ with_unread [] old = search rules in
+    top_from g.R.RowSink.begun g.R.RowSink.given g.R.RowSink.unchanged old _ first last c.read_from-result.new.feed.unread
+    c.args.rows.now c.read_from-result.new.rows c.read_from-result.result (left_first old first begins) (search rules) c.read_from-result.ensures.top

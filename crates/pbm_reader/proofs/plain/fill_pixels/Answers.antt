@@ -1,14 +1,13 @@
 use Rattle.std.proofs.Common.{length, refl, ◌∙◌, arith}
 use Rattle.std.proofs.lemmas.Result.{err_from_is_err_and}
-use Rattle.pbm_reader.proofs.PixelLoop.{row_white, filling_begins, filling_on, filling_white, filling_fails, filled}
+use Rattle.pbm_reader.proofs.PixelLoop.{filling_begins, filling_on, filling_white, filling_fails, filled}
 use Rattle.pbm_reader.proofs.plain.fill_pixels.Goals as goal
 
 pub loop-x-init : goal.loop-x-init
 loop-x-init g c =
-    let f = c.fill.ensures in
+    let f = c.whiten.ensures in
     record {
-      filling = filling_begins c.args.feed.now.source c.args.start c.fill.new.self c.requires.low
-          (row_white (length c.args.row.now) c.fill.new.self f.len (λ k d lt. f.clones k d lt refl));
+      filling = filling_begins c.args.feed.now.source c.args.start c.whiten.new.bits c.requires.low f.pixels;
       buffer = f.len ∙ c.requires.len;
       low = c.requires.low;
       same = refl;

@@ -2,6 +2,8 @@ use Rattle.std.proofs.Common.{ℕ, ◌+◌, ◌*◌, refl, subst, inl, arith, �
 use Rattle.std.proofs.lemmas.Result.{err_from_is_err_and}
 use Rattle.pbm_reader.specs.Page.{row_len}
 use Rattle.pbm_reader.specs.Raster.{BytesFail}
+use Rattle.pbm_reader.specs.declared.fault.PageFault.TheVariants as faults
+use Rattle.pbm_reader.proofs.TopRows.{Stopped, unread, bytes_stopped}
 use Rattle.pbm_reader.proofs.RowLoop.{no_rows, one_more_row, row_fails, all_rows, rows_stop}
 use Rattle.pbm_reader.proofs.raster.read_raw_raster.Goals as goal
 
@@ -22,17 +24,20 @@ returns-in_err-row-clause-top g c =
     let p = err_from_is_err_and c.from_residual.result c.from_residual.ensures.1 in
     let size = c.args.header.size in
     let old = c.args.feed.now.source in
-    rw p.1 (rows_stop g.R.RowSink.given g.R.RowSink.unchanged old old size.width size.height 0 c.args.rows.now c.args.rows.now c.args.rows.now
-    (no_rows g.R.RowSink.given old size.width size.height c.args.rows.now) (inl refl))
+    rw (p.1, p.2) (rows_stop g.R.RowSink.given g.R.RowSink.unchanged old old old size.width size.height 0 c.args.header.len c.args.rows.now c.args.rows.now c.args.rows.now faults.Memory
+    (no_rows g.R.RowSink.given old size.width size.height c.args.rows.now) (omega arith) (inl refl) (unread old (c.args.header.len + 0 * row_len size.width)))
 
 pub returns-in_err-read_row-clause-top : goal.returns-in_err-read_row-clause-top
 returns-in_err-read_row-clause-top g c =
     let p = err_from_is_err_and c.from_residual-in_err-read_row.result c.from_residual-in_err-read_row.ensures.1 in
     let size = c.args.header.size in
     let old = c.args.feed.now.source in
-    let now = c.loop-y.feed.source in
-    rw p.1 (rows_stop g.R.RowSink.given g.R.RowSink.unchanged old now size.width size.height c.loop-y._y c.args.rows.now c.loop-y.rows c.read_row.new.rows
-    c.loop-y.invariant.giving c.in_err-read_row.ensures.stays)
+    let middle = c.loop-y.feed.source in
+    let new = c.read_row.new.feed.source in
+    let P : ℕ → Type 0 = λ at. Stopped middle new at c.in_err-read_row.field-0.0 in
+    let stop = subst P c.loop-y.invariant.offset (bytes_stopped middle new c.loop-y.at (row_len size.width) c.in_err-read_row.field-0.0 c.in_err-read_row.ensures.fault) in
+    rw (p.1, p.2) (rows_stop g.R.RowSink.given g.R.RowSink.unchanged old middle new size.width size.height c.loop-y._y c.args.header.len c.args.rows.now c.loop-y.rows c.read_row.new.rows
+    c.in_err-read_row.field-0.0 c.loop-y.invariant.giving (omega arith) c.in_err-read_row.ensures.stays stop)
 
 pub loop-y-preserved : goal.loop-y-preserved
 loop-y-preserved g c =
@@ -41,7 +46,8 @@ loop-y-preserved g c =
     let middle = c.loop-y.feed.source in
     let new = c.read_row.new.feed.source in
     record {
-      giving = one_more_row g.R.RowSink.given old middle new size.width size.height c.loop-y._y c.args.rows.now c.loop-y.rows c.read_row.new.rows c.loop-y.invariant.giving c.in_ok-read_row.ensures.ok;
+      giving = one_more_row g.R.RowSink.given old middle new size.width size.height c.loop-y._y c.args.rows.now c.loop-y.rows c.read_row.new.rows c.loop-y.invariant.giving
+          (omega arith) c.in_ok-read_row.ensures.ok;
       buffer = c.loop-y.invariant.buffer;
       offset = omega (arith, c.loop-y.invariant.offset, c.row_len-len.ensures);
       width = c.in_ok-read_row.ensures.width;

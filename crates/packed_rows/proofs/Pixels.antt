@@ -1,14 +1,12 @@
 -- The pixels of packed bytes.
-use Rattle.std.proofs.Common.{◌≡◌, ◌≢◌, ◌⊎◌, Bool, true, false, cond, eqb, bit_or, w8, refl, ℕ, zero, suc, ◌+◌, ◌-◌, ◌*◌, ◌/◌, ◌%◌, ◌^◌, ◌<◌, ◌≤◌, List, length, get_or, set, sym, ap, ◌∙◌, inl, inr, arith}
+use Rattle.std.proofs.Common.{◌≡◌, ◌≢◌, Bool, true, false, cond, eqb, bit_or, w8, refl, ℕ, zero, suc, ◌+◌, ◌-◌, ◌*◌, ◌/◌, ◌%◌, ◌^◌, ◌<◌, ◌≤◌, List, length, get_or, set, sym, ap, ◌∙◌, inl, inr, arith}
 use Rattle.std.proofs.Math.Nat.{div-div-eq-div-mul}
 use Rattle.std.proofs.lemmas.Nat.{mod-pow-add}
 use Rattle.std.proofs.lemmas.Nat.Bits.{bit_at-zero, bit_at-suc, bit_at_lowest, bit_at_set_same, bit_at_set_other}
-use Rattle.std.proofs.lemmas.Bool.Decides.{nat_tests}
-use Rattle.std.proofs.lemmas.Bool.{cases_lt, lt-ltb, le-ltb}
+use Rattle.std.proofs.lemmas.Bool.{cases_lt, cases_eq, lt-ltb, le-ltb, eqb-true, eqb-false}
 use Rattle.std.proofs.lemmas.List.{get_or-set_same, get_or-set_other, get_or_past, length-set}
 use Rattle.std.specs.Int.{bit_at}
-use Rattle.pbm_reader.specs.Page.{row_len, pixel}
-use Rattle.pbm_reader.specs.Raster.{IsCleared}
+use Rattle.packed_rows.specs.Page.{row_len, pixel, IsCleared}
 
 -- the lowest p bits cleared
 abbrev cleared : ℕ → ℕ → ℕ
@@ -93,25 +91,19 @@ outside row width x len some le =
 
 -- ---- a pixel of a row made black
 
-is_eq : (a b : ℕ) → eqb a b ≡ true → a ≡ b
-is_eq a b e = grind (arith, nat_tests)
-
-no_eq : (a b : ℕ) → eqb a b ≡ false → a ≡ b → ⊥
-no_eq a b e q = grind (arith, nat_tests)
-
 pub put_black : (row : List ℕ) (x i k : ℕ) → i ≡ x / 8 → i < length row
     → pixel (set row i (bit_or (get_or row i 0) (1 * 2 ^ (7 - x % 8) % 256))) k ≡ cond (eqb k x) 1 (pixel row k)
 put_black row x i k place within = cases (eqb k x) refl
   where
     cases : (b : Bool) → eqb k x ≡ b → pixel (set row i (bit_or (get_or row i 0) (1 * 2 ^ (7 - x % 8) % 256))) k ≡ cond b 1 (pixel row k)
     cases true e =
-        let same : k ≡ x = is_eq k x e in
+        let same : k ≡ x = eqb-true k x e in
         let here : k / 8 ≡ i = ap (λ (n : ℕ). n / 8) same ∙ sym place in
         last_byte row i (bit_or (get_or row i 0) (1 * 2 ^ (7 - x % 8) % 256)) k within here
         ∙ ap (λ (n : ℕ). bit_at (bit_or (get_or row i 0) (1 * 2 ^ (7 - x % 8) % 256)) (7 - n % 8)) same
         ∙ bit_at_set_same w8 (get_or row i 0) (7 - x % 8) (omega arith)
     cases false e =
-        let other = no_eq k x e in
+        let other = eqb-false k x e in
         elim (cases_eq (k / 8) i) [
           | inl here ↦
               last_byte row i (bit_or (get_or row i 0) (1 * 2 ^ (7 - x % 8) % 256)) k within here
@@ -119,13 +111,6 @@ put_black row x i k place within = cases (eqb k x) refl
               ∙ ap (λ (n : ℕ). bit_at (get_or row n 0) (7 - k % 8)) (sym here)
           | inr apart ↦ same_byte row i (bit_or (get_or row i 0) (1 * 2 ^ (7 - x % 8) % 256)) k apart
         ]
-      where
-        cases_eq : (a b : ℕ) → (a ≡ b) ⊎ (a ≢ b)
-        cases_eq a b = by_test (eqb a b) refl
-          where
-            by_test : (t : Bool) → eqb a b ≡ t → (a ≡ b) ⊎ (a ≢ b)
-            by_test true q = inl (is_eq a b q)
-            by_test false q = inr (no_eq a b q)
 
 -- a row whose last byte has its padding bits cleared
 pub cleared_row : (row : List ℕ) (width : ℕ) → length row ≡ row_len width → 0 < length row
@@ -138,3 +123,15 @@ cleared_row row width len some = record {
         | inr le ↦ rw (le-ltb x width le) (outside row width x len some le)
       ];
 }
+
+-- ---- a row of zeros
+
+pub row_white : (size : ℕ) (row : List ℕ) → length row ≡ size → ((k d : ℕ) → k < size → get_or row k d ≡ 0) → (k : ℕ) → pixel row k ≡ 0
+row_white size row len zeros k = ap (λ (n : ℕ). bit_at n (7 - k % 8)) byte ∙ bit_at-zero (7 - k % 8)
+  where
+    byte : get_or row (k / 8) 0 ≡ 0
+    byte =
+        elim (cases_lt (k / 8) size) [
+          | inl lt ↦ zeros (k / 8) 0 lt
+          | inr ge ↦ get_or_past row (k / 8) 0 (omega (arith, len, ge))
+        ]

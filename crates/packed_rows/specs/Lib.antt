@@ -1,0 +1,3 @@
+-- A page, and its rows as packed bytes.
+pub mod Page
+pub mod PageLaws

@@ -1,0 +1,146 @@
+-- The rows that were given before a fault.
+use Rattle.std.proofs.Common.{◌≡◌, ℕ, ◌+◌, List, [], ◌∷◌, ◌++◌, length, Option, Result, Ok, Err, refl, sym, ap, subst, ◌∙◌, append_assoc, inl, inr, arith}
+use Rattle.std.specs.Prelude.{IfErr}
+use Rattle.std.specs.Io.KnownBytes.{prepend_known}
+use Rattle.layout_outside.specs.Views.{SourceView}
+use Rattle.layout_outside.specs.Taken.{Took}
+use Rattle.packed_rows.specs.Page.{IsPageSize}
+use Rattle.pbm_reader.specs.declared.header.Header.{Header}
+use Rattle.pbm_reader.specs.declared.fault.Size.{Size}
+use Rattle.pbm_reader.specs.declared.fault.PageFault.{PageFault}
+use Rattle.pbm_reader.specs.declared.fault.PageFault.TheVariants as faults
+use Rattle.pbm_reader.specs.declared.form.Form.{Form}
+use Rattle.pbm_reader.specs.Spelling.{IsHeader}
+use Rattle.pbm_reader.specs.Given.{AfterRows, AfterFault, StandsBehind}
+use Rattle.pbm_reader.specs.Raster.{BytesFail, GivenTopRows, TookRaster}
+use Rattle.pbm_reader.specs.Plain.{PixelsFail}
+use Rattle.pbm_reader.specs.Tail.{TailFails}
+use Rattle.pbm_reader.specs.Header.{TookHeader}
+use Rattle.pbm_reader.proofs.Taken.{took_more, prepend_nothing, prepend_twice}
+
+-- ---- some bytes were taken, and a fault stands behind this offset
+
+abbrev pub Stopped : SourceView → SourceView → ℕ → PageFault → Type 0
+Stopped old new at fault = (bytes : List ℕ) × Took old new bytes × StandsBehind at fault
+
+-- want of memory before a byte was taken
+pub unread : (old : SourceView) (at : ℕ) → Stopped old old at faults.Memory
+unread old at = ([], prepend_nothing old.left, tt)
+
+pub bytes_stopped : (old new : SourceView) (at len : ℕ) (fault : PageFault) → BytesFail old new at len fault → Stopped old new at fault
+bytes_stopped old new at len (faults.Truncated end) f = (f.0, f.1.took, omega (arith, f.3))
+bytes_stopped old new at len faults.ReadFault f = (f.0, f.1, tt)
+bytes_stopped old new at len faults.Memory f = (f.0, f.1, tt)
+bytes_stopped old new at len (faults.Magic place) f = absurd f
+bytes_stopped old new at len (faults.Header place) f = absurd f
+bytes_stopped old new at len faults.HeaderTooLong f = absurd f
+bytes_stopped old new at len faults.ZeroSize f = absurd f
+bytes_stopped old new at len (faults.TooLarge wide high) f = absurd f
+bytes_stopped old new at len (faults.Pixel place) f = absurd f
+bytes_stopped old new at len (faults.Trailing place) f = absurd f
+bytes_stopped old new at len faults.InputTooLong f = absurd f
+
+pub pixels_stopped : (old new : SourceView) (at count : ℕ) (fault : PageFault) → PixelsFail old new at count fault → Stopped old new at fault
+pixels_stopped old new at count (faults.Truncated end) f = (f.1, f.2.took, omega (arith, f.4))
+pixels_stopped old new at count (faults.Pixel place) f = (f.0 ++ f.1 ∷ [], f.2, omega (arith, f.5))
+pixels_stopped old new at count faults.InputTooLong f = (f.1 ++ f.2 ∷ [], f.3, omega (arith, f.5))
+pixels_stopped old new at count faults.ReadFault f = (f.1, f.2, tt)
+pixels_stopped old new at count faults.Memory f = (f.0, f.1, tt)
+pixels_stopped old new at count (faults.Magic place) f = absurd f
+pixels_stopped old new at count (faults.Header place) f = absurd f
+pixels_stopped old new at count faults.HeaderTooLong f = absurd f
+pixels_stopped old new at count faults.ZeroSize f = absurd f
+pixels_stopped old new at count (faults.TooLarge wide high) f = absurd f
+pixels_stopped old new at count (faults.Trailing place) f = absurd f
+
+tail_stopped : (old new : SourceView) (form : Form) (at : ℕ) (fault : PageFault) → TailFails old new form at fault → Stopped old new at fault
+tail_stopped old new form at (faults.Trailing place) f = (f.0 ∷ [], f.1, omega (arith, f.3))
+tail_stopped old new form at faults.InputTooLong f = (f.0, f.1, omega (arith, f.2.4))
+tail_stopped old new form at faults.ReadFault f = (f.0, f.1, tt)
+tail_stopped old new form at (faults.Magic place) f = absurd f
+tail_stopped old new form at (faults.Header place) f = absurd f
+tail_stopped old new form at faults.HeaderTooLong f = absurd f
+tail_stopped old new form at faults.ZeroSize f = absurd f
+tail_stopped old new form at (faults.TooLarge wide high) f = absurd f
+tail_stopped old new form at (faults.Truncated place) f = absurd f
+tail_stopped old new form at (faults.Pixel place) f = absurd f
+tail_stopped old new form at faults.Memory f = absurd f
+
+-- ---- the rows of a page
+
+-- all rows were given, and then the page was refused
+pub all_rows_given : {Sink : Type 0} (given : Sink → List ℕ → Sink → Type 0) (unchanged : Sink → Sink → Type 0) (old later new : SourceView) (header : Header) (end : ℕ) (empty after : Sink)
+    (fault : PageFault) → TookRaster given old later header.form header.size.width header.size.height header.len end empty after → TailFails later new header.form end fault
+    → GivenTopRows given unchanged header.form header.size.width header.size.height header.len old new empty after fault
+all_rows_given given unchanged old later new header end empty after fault r f =
+    let stop = tail_stopped later new header.form end fault f in
+    let P : ℕ → Type 0 = λ n. StandsBehind n fault in
+    let R : ℕ → Type 0 = λ n. AfterRows given r.page n empty after in
+    record {
+      page = r.page;
+      raster = r.raster;
+      rest = stop.0;
+      took = took_more old later new r.raster stop.0 r.took stop.1;
+      place = subst P r.end_is stop.2;
+      width_is = r.width_is;
+      height_is = r.height_is;
+      top = record { count = r.page.height; few = omega arith; spelled = r.rows; top = after; rows = subst R (sym r.height_is) r.gives; stays = inl refl };
+    }
+
+-- top rows of a raster are top rows of the page whose header was taken before it
+pub top_rows : {Sink : Type 0} (begun : Sink → ℕ → ℕ → Sink → Type 0) (given : Sink → List ℕ → Sink → Type 0) (unchanged : Sink → Sink → Type 0)
+    (old middle new : SourceView) (header : Header) (before empty after : Sink) (fault : PageFault) → TookHeader old middle header → begun before header.size.width header.size.height empty
+    → GivenTopRows given unchanged header.form header.size.width header.size.height header.len middle new empty after fault → AfterFault begun given unchanged old new before after fault
+top_rows begun given unchanged old middle new header before empty after fault t b g =
+    let P : ℕ → Type 0 = λ n. StandsBehind (n + length g.raster) fault in
+    let Begins : ℕ → ℕ → Type 0 = λ w h. IsHeader t.bytes header.form w h × IsPageSize w h × begun before w h empty in
+    let Wide : ℕ → Type 0 = λ w. Begins w header.size.height in
+    let High : ℕ → Type 0 = λ h. Begins g.page.width h in
+    let first : Begins header.size.width header.size.height = (t.is_header, t.size, b) in
+    let begins : Begins g.page.width g.page.height = subst High (sym g.height_is) (subst Wide (sym g.width_is) first) in
+    inr (record {
+      form = header.form;
+      page = g.page;
+      header = t.bytes;
+      raster = g.raster;
+      rest = g.rest;
+      took = took_more old middle new t.bytes (g.raster ++ g.rest) t.took g.took;
+      place = subst P t.len g.place;
+      is_header = begins.0;
+      short = t.short;
+      size = begins.1;
+      empty = empty;
+      begins = begins.2;
+      top = g.top;
+    })
+
+-- ---- a feed that begins with nothing unread, and in which bytes may be left
+
+pub top_from : {Sink : Type 0} (begun : Sink → ℕ → ℕ → Sink → Type 0) (given : Sink → List ℕ → Sink → Type 0) (unchanged : Sink → Sink → Type 0) (old new first last : SourceView)
+    (unread : List ℕ) (before after : Sink) (result : Result Size PageFault) → first.left ≡ old.left → last.left ≡ prepend_known unread new.left
+    → IfErr result (AfterFault begun given unchanged first last before after) → IfErr result (AfterFault begun given unchanged old new before after)
+top_from begun given unchanged old new first last unread before after (Ok size) begins ends f = tt
+top_from begun given unchanged old new first last unread before after (Err fault) begins ends (inl stays) = inl stays
+top_from begun given unchanged old new first last unread before after (Err fault) begins ends (inr t) =
+    let bytes = t.header ++ (t.raster ++ t.rest) in
+    let more : bytes ++ unread ≡ t.header ++ (t.raster ++ (t.rest ++ unread)) =
+    append_assoc t.header (t.raster ++ t.rest) unread ∙ ap (λ (l : List ℕ). t.header ++ l) (append_assoc t.raster t.rest unread) in
+    inr (record {
+      form = t.form;
+      page = t.page;
+      header = t.header;
+      raster = t.raster;
+      rest = t.rest ++ unread;
+      took = sym begins
+          ∙ t.took
+          ∙ ap (λ (k : Option (List ℕ)). prepend_known bytes k) ends
+          ∙ sym (prepend_twice bytes unread new.left)
+          ∙ ap (λ (l : List ℕ). prepend_known l new.left) more;
+      place = t.place;
+      is_header = t.is_header;
+      short = t.short;
+      size = t.size;
+      empty = t.empty;
+      begins = t.begins;
+      top = t.top;
+    })
