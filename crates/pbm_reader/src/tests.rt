@@ -270,13 +270,7 @@ fn no_read_is_made_behind_a_decided_fault(rt: HostRuntime) -> Result<(), Fail> {
         ),
         (b"P4 8 2\n\0", 8, 1, PageFault::Truncated { at: 8 }, 9),
         (b"P1 2 1\n0x", u64::MAX, 1, PageFault::Pixel { at: 8 }, 9),
-        (
-            b"P4 8 1\n\0",
-            u64::MAX,
-            1,
-            PageFault::Trailing { at: 8 },
-            9,
-        ),
+        (b"P4 8 1\n\0", u64::MAX, 1, PageFault::Trailing { at: 8 }, 9),
         (
             b"P1 1 1\n0",
             u64::MAX,
