@@ -1,6 +1,6 @@
 -- Bytes that are taken one after the other.
 use Rattle.std.proofs.Common.{◌≡◌, ℕ, ◌+◌, ◌<◌, List, [], ◌∷◌, ◌++◌, length, take, set, Option, Some, None, refl, sym, ap, ◌∙◌, append_assoc, subst}
-use Rattle.std.specs.Prelude.{IfSome}
+use Rattle.std.specs.Prelude.{IfSome, IfNone}
 use Rattle.std.proofs.lemmas.List.{append-nil, take_more_set}
 use Rattle.std.specs.Io.KnownBytes.{prepend_known, IsAtEnd}
 use Rattle.layout_outside.specs.Views.{SourceView}
@@ -50,3 +50,11 @@ at_end P old (Some ys) taken took end holds =
 -- what holds of all bytes, taken to the end, holds of what was left
 pub of_end : (P : List ℕ → Type 0) (old new : SourceView) (taken : List ℕ) → TookAll old new taken → P taken → IfSome old.left P
 of_end P old new taken took holds = at_end P old.left new.left taken took.took took.end.nothing holds
+
+-- ---- one byte or none
+
+pub some_of : (o : Option ℕ) (x : ℕ) (P : ℕ → Type 0) → o ≡ Some x → IfSome o P → P x
+some_of o x P e h = let Q : Option ℕ → Type 0 = λ k. IfSome k P in subst Q e h
+
+pub none_of : (o : Option ℕ) (P : Type 0) → o ≡ None → IfNone o P → P
+none_of o P e h = let Q : Option ℕ → Type 0 = λ k. IfNone k P in subst Q e h

@@ -114,28 +114,28 @@ top_rows begun given unchanged old middle new header before empty after fault t 
       top = g.top;
     })
 
--- ---- a feed that begins empty, and in which bytes may be left
+-- ---- a feed that begins with nothing unread, and in which bytes may be left
 
-pub top_from : {Sink : Type 0} (begun : Sink → ℕ → ℕ → Sink → Type 0) (given : Sink → List ℕ → Sink → Type 0) (unchanged : Sink → Sink → Type 0) (old source first last : SourceView)
-    (left : List ℕ) (before after : Sink) (result : Result Size PageFault) → first.left ≡ old.left → last.left ≡ prepend_known left source.left
-    → IfErr result (AfterFault begun given unchanged first last before after) → IfErr result (AfterFault begun given unchanged old source before after)
-top_from begun given unchanged old source first last left before after (Ok size) begins ends f = tt
-top_from begun given unchanged old source first last left before after (Err fault) begins ends (inl stays) = inl stays
-top_from begun given unchanged old source first last left before after (Err fault) begins ends (inr t) =
+pub top_from : {Sink : Type 0} (begun : Sink → ℕ → ℕ → Sink → Type 0) (given : Sink → List ℕ → Sink → Type 0) (unchanged : Sink → Sink → Type 0) (old new first last : SourceView)
+    (unread : List ℕ) (before after : Sink) (result : Result Size PageFault) → first.left ≡ old.left → last.left ≡ prepend_known unread new.left
+    → IfErr result (AfterFault begun given unchanged first last before after) → IfErr result (AfterFault begun given unchanged old new before after)
+top_from begun given unchanged old new first last unread before after (Ok size) begins ends f = tt
+top_from begun given unchanged old new first last unread before after (Err fault) begins ends (inl stays) = inl stays
+top_from begun given unchanged old new first last unread before after (Err fault) begins ends (inr t) =
     let bytes = t.header ++ (t.raster ++ t.rest) in
-    let more : bytes ++ left ≡ t.header ++ (t.raster ++ (t.rest ++ left)) =
-    append_assoc t.header (t.raster ++ t.rest) left ∙ ap (λ (l : List ℕ). t.header ++ l) (append_assoc t.raster t.rest left) in
+    let more : bytes ++ unread ≡ t.header ++ (t.raster ++ (t.rest ++ unread)) =
+    append_assoc t.header (t.raster ++ t.rest) unread ∙ ap (λ (l : List ℕ). t.header ++ l) (append_assoc t.raster t.rest unread) in
     inr (record {
       form = t.form;
       page = t.page;
       header = t.header;
       raster = t.raster;
-      rest = t.rest ++ left;
+      rest = t.rest ++ unread;
       took = sym begins
           ∙ t.took
-          ∙ ap (λ (known : Option (List ℕ)). prepend_known bytes known) ends
-          ∙ sym (prepend_twice bytes left source.left)
-          ∙ ap (λ (l : List ℕ). prepend_known l source.left) more;
+          ∙ ap (λ (k : Option (List ℕ)). prepend_known bytes k) ends
+          ∙ sym (prepend_twice bytes unread new.left)
+          ∙ ap (λ (l : List ℕ). prepend_known l new.left) more;
       place = t.place;
       is_header = t.is_header;
       short = t.short;

@@ -10,7 +10,11 @@ ended_behind (byte ∷ unread) ended = false
 
 -- the source with these bytes before what it has left
 abbrev pub with_unread : List ℕ → SourceView → SourceView
-with_unread unread source = record { left = prepend_known unread source.left; faults = source.faults; ended = ended_behind unread source.ended }
+with_unread unread source = record {
+  left = prepend_known unread source.left;
+  faults = source.faults;
+  ended = ended_behind unread source.ended;
+}
 
 -- A feed: its source with the unread bytes of the piece, those bytes, and the name of the borrow of the source, by which a caller
 -- knows that a feed still has the source that it was made of.

@@ -3,6 +3,7 @@ use Rattle.std.specs.Prelude.{◌≡◌, ◌≤◌, ◌⊎◌, ℕ, ◌+◌, zer
 use Rattle.layout_outside.specs.Views.{SourceView}
 use Rattle.layout_outside.specs.Taken.{Took}
 use Rattle.packed_rows.specs.Page.{Page, IsPageSize, IsRowOf}
+use Rattle.pbm_reader.specs.declared.limits.TheConstants.{MAX_HEADER, MAX_INPUT}
 use Rattle.pbm_reader.specs.declared.fault.PageFault.{PageFault}
 use Rattle.pbm_reader.specs.declared.fault.PageFault.TheVariants as faults
 use Rattle.pbm_reader.specs.declared.form.Form.{Form}
@@ -40,7 +41,7 @@ abbrev pub StandsBehind : ℕ → PageFault → Type 0
 StandsBehind len (faults.Truncated at) = len ≤ at
 StandsBehind len (faults.Pixel at) = len ≤ at
 StandsBehind len (faults.Trailing at) = len ≤ at
-StandsBehind len faults.InputTooLong = len ≤ 268435456
+StandsBehind len faults.InputTooLong = len ≤ MAX_INPUT
 StandsBehind len faults.ReadFault = ⊤
 StandsBehind len faults.Memory = ⊤
 StandsBehind len fault = ⊥
@@ -57,7 +58,7 @@ pub record AfterTopRows {Sink : Type 0} (begun : Sink → ℕ → ℕ → Sink �
   pub took : Took old new (header ++ (raster ++ rest))
   pub place : StandsBehind (length header + length raster) fault
   pub is_header : IsHeader header form page.width page.height
-  pub short : length header ≤ 65536
+  pub short : length header ≤ MAX_HEADER
   pub size : IsPageSize page.width page.height
   pub empty : Sink
   pub begins : begun before page.width page.height empty

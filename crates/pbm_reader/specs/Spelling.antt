@@ -2,6 +2,7 @@
 use Rattle.std.specs.Prelude.{◌≡◌, ◌≤◌, ◌<◌, ◌⊎◌, ℕ, ◌+◌, ◌-◌, ◌*◌, Bool, ◌&&◌, ◌||◌, ◌==◌}
 use Rattle.std.specs.Prelude.{IsTrue, IsFalse, nat_le, List, [], ◌∷◌, ◌++◌, length, drop, slice_index, nat_eq, codes}
 use Rattle.std.specs.List.{concat}
+use Rattle.pbm_reader.specs.declared.limits.TheConstants.{MAX_HEADER, MAX_INPUT}
 use Rattle.pbm_reader.specs.declared.form.Form.{Form}
 use Rattle.pbm_reader.specs.declared.form.Form.TheVariants.{Plain, Raw}
 use Rattle.packed_rows.specs.Page.{Page, page_with, IsPageSize, row_len, pixel}
@@ -92,7 +93,7 @@ IsSomeHeader bytes = (form : Form) × (width : ℕ) × (height : ℕ) × IsHeade
 pub record HasHeader (input header behind : List ℕ) (form : Form) (width height : ℕ) : Type 0 where
   pub whole : input ≡ header ++ behind
   pub is_header : IsHeader header form width height
-  pub short : length header ≤ 65536
+  pub short : length header ≤ MAX_HEADER
 
 -- the characters of these pixels, each behind any number of white bytes and comments
 abbrev pub SpellsPixels : List ℕ → List ℕ → Type 0
@@ -141,7 +142,7 @@ pub record Spells (bytes : List ℕ) (page : Page) : Type 0 where
   pub size : IsPageSize page.width page.height
   pub rows : SpellsRows form page raster
   pub follows : MayFollow form tail
-  pub short : length bytes ≤ 268435456
+  pub short : length bytes ≤ MAX_INPUT
 
 -- the bytes spell some page
 abbrev pub IsPage : List ℕ → Type 0

@@ -22,7 +22,8 @@ RestFails old new start fault = ⊥
 
 -- the bytes behind a raster, from this offset on, go past the limit, and none within it is refused
 abbrev pub GoesPast : Form → ℕ → List ℕ → Type 0
-GoesPast form start tail = (front : List ℕ) × (behind : List ℕ) × (tail ≡ front ++ behind) × MayFollow form front × (start + length front ≡ MAX_INPUT) × (0 < length behind)
+GoesPast form start tail =
+    (front : List ℕ) × (behind : List ℕ) × (tail ≡ front ++ behind) × MayFollow form front × (start + length front ≡ MAX_INPUT) × (0 < length behind)
 
 -- what may follow a raster was taken, and it was all that was left
 pub record TookTail (old new : SourceView) (form : Form) (start : ℕ) : Type 0 where

@@ -18,15 +18,19 @@ use layout_outside::Source;
 pub struct Header {
     pub form: Form,
     pub size: Size,
+    /// In bytes.
     pub len: u64,
 }
 
-/// What a header says, and how many bytes it takes. A size is at most 999,999,999.
+/// What a header says, and how many bytes it takes. A size is at most `MAX_NUMBER`.
 #[derive(Debug, Clone, Copy, PartialEq, Eq, Drop)]
 pub struct Told {
     pub form: Form,
+    /// In pixels.
     pub width: u32,
+    /// In pixels.
     pub height: u32,
+    /// In bytes.
     pub len: u64,
 }
 

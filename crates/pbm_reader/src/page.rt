@@ -47,6 +47,7 @@ pub fn read_page<S: Source, R: RowSink>(
 {
     let mut feed = Feed::new(src, Piece::new(alloc)?);
     let result = read_from(alloc, &mut feed, rows);
+    // The source comes back out of the feed: by this the proof sees what was read of it.
     feed.into_source();
     result
 }

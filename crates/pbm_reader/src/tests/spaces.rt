@@ -1,5 +1,5 @@
 //! A source of the tests that makes its bytes up, for inputs too long to be kept, and counts its calls.
-ghost use Rattle.std.specs.Prelude.{◌≡◌, false};
+ghost use Rattle.std.specs.Prelude.{◌≡◌};
 ghost use Rattle.layout_outside.specs.Views.{untold_source};
 
 use layout_outside::{Failed, Source};
@@ -11,6 +11,8 @@ pub struct Spaces {
     at: u64,
     len: u64,
     piece: usize,
+    // The last read answered the end.
+    ended: bool,
     // How many reads there were.
     pub calls: u64,
 }
@@ -22,13 +24,14 @@ impl Spaces {
             at: 0,
             len,
             piece,
+            ended: false,
             calls: 0,
         }
     }
 }
 
 impl Source for Spaces {
-    ghost view = { λ _. untold_source 0 false };
+    ghost view = { λ s. untold_source 0 s.ended };
 
     fn read(&mut self, buf: &mut [u8]) -> Result<usize, Failed> {
         self.calls = self.calls.saturating_add(1);
@@ -41,6 +44,7 @@ impl Source for Spaces {
             buf[..first].copy_from_slice(&self.front[at..at + first]);
         }
         self.at = self.at.saturating_add(count as u64);
+        self.ended = count == 0;
         Ok(count)
     }
 }

@@ -9,14 +9,9 @@ use Rattle.layout_outside.specs.Views.{SourceView}
 use Rattle.layout_outside.specs.Taken.{Took, TookAll}
 use Rattle.pbm_reader.specs.Header.{next_state}
 use Rattle.pbm_reader.specs.Reading.{Refuses}
+use Rattle.pbm_reader.proofs.Taken.{some_of, none_of}
 use Rattle.pbm_reader.proofs.HeaderLoop.{IsReading, not_whole, reading_on, reading_whole, reading_undecided, wrong_fails, end_fails, limit_end, limit_more}
 use Rattle.pbm_reader.proofs.header.read_told.Goals as goal
-
-some_of : (o : Option ℕ) (x : ℕ) (P : ℕ → Type 0) → o ≡ Some x → IfSome o P → P x
-some_of o x P e h = let Q : Option ℕ → Type 0 = λ k. IfSome k P in subst Q e h
-
-none_of : (o : Option ℕ) (P : Type 0) → o ≡ None → IfNone o P → P
-none_of o P e h = let Q : Option ℕ → Type 0 = λ k. IfNone k P in subst Q e h
 
 pub returns-in_err-byte-clause-fault : goal.returns-in_err-byte-clause-fault
 returns-in_err-byte-clause-fault g c =

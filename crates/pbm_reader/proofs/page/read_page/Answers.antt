@@ -32,5 +32,5 @@ returns-clause-top g c =
     let first = c.new-feed.result.source in
     let last = c.read_from-result.new.feed.source in
     let begins : first ≡ with_unread [] old = search rules in
-    top_from g.R.RowSink.begun g.R.RowSink.given g.R.RowSink.unchanged old _ first last c.read_from-result.new.feed.unread c.args.rows.now c.read_from-result.new.rows
-    c.read_from-result.result (left_first old first begins) (search rules) c.read_from-result.ensures.top
+    top_from g.R.RowSink.begun g.R.RowSink.given g.R.RowSink.unchanged old _ first last c.read_from-result.new.feed.unread
+    c.args.rows.now c.read_from-result.new.rows c.read_from-result.result (left_first old first begins) (search rules) c.read_from-result.ensures.top

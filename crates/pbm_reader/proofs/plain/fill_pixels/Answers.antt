@@ -7,7 +7,7 @@ pub loop-x-init : goal.loop-x-init
 loop-x-init g c =
     let f = c.whiten.ensures in
     record {
-      filling = filling_begins (c.args.feed.now.source) c.args.start c.whiten.new.bits c.requires.low f.pixels;
+      filling = filling_begins c.args.feed.now.source c.args.start c.whiten.new.bits c.requires.low f.pixels;
       buffer = f.len ∙ c.requires.len;
       low = c.requires.low;
       same = refl;

@@ -5,14 +5,9 @@ use Rattle.pbm_reader.specs.declared.fault.PageFault.TheVariants.{ReadFault, Tru
 use Rattle.pbm_reader.specs.declared.plain.PixelStep.TheVariants.{Blank, Found, Wrong}
 use Rattle.layout_outside.specs.Taken.{Took, TookAll}
 use Rattle.pbm_reader.specs.Plain.{pixel_step, PixelsFail}
+use Rattle.pbm_reader.proofs.Taken.{some_of, none_of}
 use Rattle.pbm_reader.proofs.PixelLoop.{between_begins, between_on, between_found, between_wrong, between_end, between_unread, between_long}
 use Rattle.pbm_reader.proofs.plain.next_pixel.Goals as goal
-
-some_of : (o : Option ℕ) (x : ℕ) (P : ℕ → Type 0) → o ≡ Some x → IfSome o P → P x
-some_of o x P e h = let Q : Option ℕ → Type 0 = λ k. IfSome k P in subst Q e h
-
-none_of : (o : Option ℕ) (P : Type 0) → o ≡ None → IfNone o P → P
-none_of o P e h = let Q : Option ℕ → Type 0 = λ k. IfNone k P in subst Q e h
 
 pub loop-at-init : goal.loop-at-init
 loop-at-init g c = record { between = between_begins c.args.feed.now.source c.args.start; same = refl; later = omega arith }

@@ -3,11 +3,9 @@ use Rattle.std.specs.Prelude.{IfSome, OnOk, IfErr}
 use Rattle.pbm_reader.specs.Spelling.{MayFollow}
 use Rattle.layout_outside.specs.Taken.{Took}
 use Rattle.pbm_reader.specs.Tail.{RestFails, TailFails, TookRest, TookTail}
+use Rattle.pbm_reader.proofs.Taken.{some_of}
 use Rattle.pbm_reader.proofs.TailLoop.{tail_taken, tail_fails}
 use Rattle.pbm_reader.proofs.tail.read_tail.Goals as goal
-
-some_of : (o : Option ℕ) (x : ℕ) (P : ℕ → Type 0) → o ≡ Some x → IfSome o P → P x
-some_of o x P e h = let Q : Option ℕ → Type 0 = λ k. IfSome k P in subst Q e h
 
 ok_map : {T E : Type 0} (r : Result T E) (P Q : Type 0) → (P → Q) → OnOk r P → OnOk r Q
 ok_map (Ok x) P Q f p = f p
