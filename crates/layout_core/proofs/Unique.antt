@@ -85,7 +85,7 @@ same_marks : (xs ys : List Line) (ms ns : List Mark) → xs ≡ ys → IsNumbere
 same_marks xs ys ms ns found is is_too =
     let here : IsNumbered ys ms = rw found at is in
     let numbered : here.numbered ≡ is_too.numbered =
-        one_stable_sort (λ (x y : Line). is_lt (compare_lines x y)) lines_rank ys here.numbered is_too.numbered here.sorted here.stable is_too.sorted is_too.stable in
+    one_stable_sort (λ (x y : Line). is_lt (compare_lines x y)) lines_rank ys here.numbered is_too.numbered here.sorted here.stable is_too.sorted is_too.stable in
     here.shown ∙ ap (map mark_of) numbered ∙ sym is_too.shown
 
 same_order : OrderIsUnique → (ms ns : List Mark) (o p : Order) → ms ≡ ns → IsReadingOrder (map box_of ms) o → IsReadingOrder (map box_of ns) p → o ≡ p

@@ -138,13 +138,11 @@ EndsWritten run = (run.status ≡ 0) ⊎ ((run.status ≡ 6) × Rose run.out_bef
 pub record IsRun (SourceStays OutStays ErrStays : Type 0) (run : RunAccount) : Type 0 where
   -- The status is 0 or one from 2 to 7.
   pub statuses : IsStatus run.status
-
   -- The headline. 0: the words have a plan, the input was read to its end, it spells a page, and just the document of the page's
   -- layout by that plan was written; or the plan has a seed, and just the summary of the layout of the seed's page was.
   pub done : run.status ≡ 0 → WritesOutput run
   -- 0: nothing was written to `err`.
   pub silent : run.status ≡ 0 → ErrStays
-
   -- 2: the words have no plan, nothing was read, and the line tells which words the program takes.
   pub usage : run.status ≡ 2 → HasNoPlan run.program run.words × SourceStays × Says run (refusals.Usage run.program)
   -- 3: the words plan to read, the input has a fault of this status, and the line names it.
@@ -159,12 +157,10 @@ pub record IsRun (SourceStays OutStays ErrStays : Type 0) (run : RunAccount) : T
   pub memory : run.status ≡ 7 → Says run refusals.Memory
   -- 2 to 5 and 7: nothing was written to `out`.
   pub unwritten : run.status ≢ 0 → run.status ≢ 6 → OutStays
-
   -- Words without a plan end with 2, unless memory was refused.
   pub planless : HasNoPlan run.program run.words → EndsWith run 2
   -- With each other status but 7 the words have a plan.
   pub planned : run.status ≢ 2 → run.status ≢ 7 → IsPlanned run.program run.words
-
   -- An input with a fault ends with the fault's status, unless a read failed or memory was refused.
   pub faulty : IsReading run.program run.words → (input : List ℕ) (fault : PageFault)
       → ToldWhole run.source_before run.source_after input → HasFault input fault → EndsWith run (fault_status fault)
@@ -175,7 +171,6 @@ pub record IsRun (SourceStays OutStays ErrStays : Type 0) (run : RunAccount) : T
   -- or memory was refused.
   pub complete : IsReading run.program run.words → (input : List ℕ) (page : Page)
       → ToldWhole run.source_before run.source_after input → Spells input page → HasFewComponents page → EndsWritten run
-
   -- A run on a made page reads nothing.
   pub unread : IsMaking run.program run.words → SourceStays
   -- A run on a made page ends with its summary written, unless a write failed or memory was refused.
@@ -196,16 +191,16 @@ change view before after = record { view = view; before = before; after = after 
 abbrev pub account_of : {S K E : Type 0} → Program → List (List ℕ) → Change S SourceView → Change K SinkView → Change E SinkView → ℕ
     → RunAccount
 account_of program words source out err status = record {
-      program = program;
-      words = words;
-      source_before = source.view source.before;
-      source_after = source.view source.after;
-      out_before = out.view out.before;
-      out_after = out.view out.after;
-      err_before = err.view err.before;
-      err_after = err.view err.after;
-      status = status;
-    }
+  program = program;
+  words = words;
+  source_before = source.view source.before;
+  source_after = source.view source.after;
+  out_before = out.view out.before;
+  out_after = out.view out.after;
+  err_before = err.view err.before;
+  err_after = err.view err.after;
+  status = status;
+}
 
 -- It is a run as both programs promise it.
 abbrev pub Runs : {S K E : Type 0} → Program → List (List ℕ) → Change S SourceView → Change K SinkView → Change E SinkView → ℕ

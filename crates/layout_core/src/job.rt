@@ -63,10 +63,8 @@ pub(crate) fn plan_of(alloc: Global, words: &[String], program: Program) -> Resu
 
 /// Writes the text to `out`, or the line of a refusal to `err`, and answers the status of the run.
 fn finish<K: Sink, E: Sink>(text: Result<Vec<u8>, Refusal>, out: &mut K, err: &mut E) -> u8
-    ensures {
-        Finishes (err.new ≡ err.old) (out.new ≡ out.old) (K.view out.old) (K.view out.new) (E.view err.old) (E.view err.new)
-            text (λ text. text.items) result
-    }
+    ensures { Finishes (err.new ≡ err.old) (out.new ≡ out.old) (K.view out.old) (K.view out.new) (E.view err.old) (E.view err.new)
+        text (λ text. text.items) result }
 {
     match text {
         Ok(text) => match put_all(out, &text) {
@@ -89,13 +87,11 @@ pub(crate) fn lay_out<F: Searcher<White>, G: Searcher<Grid>, S: Source, K: Sink,
     requires ready { F.ready searchers.old.whites × G.ready searchers.old.lines }
     requires some { 1 ≤ job.now.plan.rects }
     requires few { job.now.plan.rects ≤ 256 }
-    ensures {
-        Runs job.now.program (map string_bytes job.now.words.now)
-            (change S.view streams.entry.source.now streams.exit.0.now)
-            (change K.view streams.entry.out.now streams.exit.1.0.now)
-            (change E.view streams.entry.err.now streams.exit.1.1.0.now)
-            result
-    }
+    ensures { Runs job.now.program (map string_bytes job.now.words.now)
+        (change S.view streams.entry.source.now streams.exit.0.now)
+        (change K.view streams.entry.out.now streams.exit.1.0.now)
+        (change E.view streams.entry.err.now streams.exit.1.1.0.now)
+        result }
 {
     // The law of the words.
     words_have_one_plan();

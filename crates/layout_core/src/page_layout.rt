@@ -13,10 +13,10 @@ use components::{CompFault, components};
 use gutters::gutters;
 use hocr_writer::Layout;
 use layout_geom::{Name, Rect};
+use layout_limits::OutOfMemory;
 use line_search::{Grid, lines};
 use page_runs::RunPage;
 use reading_order::order_of;
-use layout_limits::OutOfMemory;
 use std::alloc::Global;
 use whitespace_cover::{White, cover};
 

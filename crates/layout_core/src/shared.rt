@@ -33,10 +33,8 @@ pub fn layout_shared<R: Threads + Wait + Sync, S: Source, K: Sink, E: Sink, G: G
     gate: &G,
 ) -> u8
     // The headline, and all else that a run promises, a fact for each status: `IsRun`.
-    ensures {
-        Runs Program.Shared (map string_bytes words.now)
-            (change S.view src.old src.new) (change K.view out.old out.new) (change E.view err.old err.new) result
-    }
+    ensures { Runs Program.Shared (map string_bytes words.now)
+        (change S.view src.old src.new) (change K.view out.old out.new) (change E.view err.old err.new) result }
 {
     let plan = match plan_of(alloc, words, Program::Shared) {
         Ok(plan) => plan,

@@ -31,10 +31,8 @@ pub fn layout_alone<S: Source, K: Sink, E: Sink>(
     err: &mut E,
 ) -> u8
     // The headline, and all else that a run promises, a fact for each status: `IsRun`.
-    ensures {
-        Runs Program.Alone (map string_bytes words.now)
-            (change S.view src.old src.new) (change K.view out.old out.new) (change E.view err.old err.new) result
-    }
+    ensures { Runs Program.Alone (map string_bytes words.now)
+        (change S.view src.old src.new) (change K.view out.old out.new) (change E.view err.old err.new) result }
 {
     let plan = match plan_of(alloc, words, Program::Alone) {
         Ok(plan) => plan,

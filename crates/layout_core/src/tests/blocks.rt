@@ -6,7 +6,12 @@ use std::test::Fail;
 pub(super) type Block = [u16; 4];
 
 /// A page in raw PBM, of which just the pixels of the blocks are black.
-pub(super) fn page(alloc: Global, width: u16, height: u16, blocks: &[Block]) -> Result<Vec<u8>, Fail> {
+pub(super) fn page(
+    alloc: Global,
+    width: u16,
+    height: u16,
+    blocks: &[Block],
+) -> Result<Vec<u8>, Fail> {
     let mut input = format!(in alloc; "P4\n{width} {height}\n")?.into_bytes();
     for y in 0..height {
         for byte in 0..width.div_ceil(8) {

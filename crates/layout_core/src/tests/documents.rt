@@ -127,12 +127,21 @@ fn gives<R: Threads + Wait + Sync>(
     let text = document(alloc, body)?;
     for piece in [1, 16, 4096] {
         let outcome = run(rt, alloc, &[], &in_pieces(input, piece))?;
-        if outcome.status != 0 || outcome.err.calls != 0 || outcome.out.as_slice() != text.as_slice() {
+        if outcome.status != 0
+            || outcome.err.calls != 0
+            || outcome.out.as_slice() != text.as_slice()
+        {
             return Ok(false);
         }
     }
     for workers in ["1", "2", "7"] {
-        let outcome = run_of(rt, alloc, Program::Shared, &["--workers", workers], &in_pieces(input, 4096))?;
+        let outcome = run_of(
+            rt,
+            alloc,
+            Program::Shared,
+            &["--workers", workers],
+            &in_pieces(input, 4096),
+        )?;
         if outcome.out.as_slice() != text.as_slice() {
             return Ok(false);
         }
@@ -155,7 +164,13 @@ fn pages_give_their_documents(rt: HostRuntime) -> Result<(), Fail> {
         ("three glyphs", 100, 40, three, THREE_GLYPHS),
         ("two glyphs", 100, 40, &three[..2], TWO_GLYPHS),
         ("two columns", 84, 41, columns.as_slice(), TWO_COLUMNS),
-        ("heading over two columns", 86, 53, heading.as_slice(), HEADING_OVER_TWO_COLUMNS),
+        (
+            "heading over two columns",
+            86,
+            53,
+            heading.as_slice(),
+            HEADING_OVER_TWO_COLUMNS,
+        ),
     ];
     for (name, width, height, blocks, body) in cases {
         let input = page(alloc, width, height, blocks)?;
@@ -212,7 +227,13 @@ fn documents_have_slanted_lines_and_a_cycle_of_four(rt: HostRuntime) -> Result<(
     for (blocks, line) in cases {
         let input = page(rt.alloc(), 1010, 70, blocks)?;
         let outcome = run(&rt, rt.alloc(), &[], &in_pieces(&input, 4096))?;
-        assert!(rt; outcome.out.as_slice().windows(line.len()).any(|part| part == line));
+        assert!(rt;
+            outcome
+                .out
+                .as_slice()
+                .windows(line.len())
+                .any(|part| part == line)
+        );
     }
     Ok(())
 }

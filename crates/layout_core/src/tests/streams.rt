@@ -23,7 +23,11 @@ fn a_source_that_fails_at_each_call_in_turn(rt: HostRuntime) -> Result<(), Fail>
             };
             assert_eq!(rt; outcome.status, status, "piece {piece}, call {call}");
             assert_eq!(rt; outcome.err.as_slice(), line, "piece {piece}, call {call}");
-            assert_eq!(rt; outcome.out.calls == 0, call != calls, "piece {piece}, call {call}");
+            assert_eq!(rt;
+                outcome.out.calls == 0,
+                call != calls,
+                "piece {piece}, call {call}"
+            );
         }
     }
     Ok(())
