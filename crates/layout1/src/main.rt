@@ -1,24 +1,17 @@
 //! Prints the layout of the page on the standard input.
 #![tactic(auto)]
 
-ghost use Rattle.std.specs.Prelude.{◌≡◌, ◌⊎◌, IfOk, IfErr, map, string_bytes};
+ghost use Rattle.std.specs.Prelude.{IfOk, IfErr, map, string_bytes};
+ghost use Rattle.std.specs.IoError.{error_kind};
 ghost use Rattle.command_words.specs.declared.plan.Program.{Program};
-ghost use Rattle.layout_core.specs.Run.{WritesOutput};
-ghost use Rattle.layout_core.specs.Status.{IsStatus};
+ghost use Rattle.layout_core.specs.Status.{Runs, change};
+ghost use Rattle.layout_core.specs.Words.{RunsUnread};
 
-use layout_core::{Program, Refusal, layout_alone, refuse};
+use layout_core::{Program, layout_alone, refusal_of_unreadable, refuse, words_given};
 use layout_outside::{Sink, Source, StdSink, StdSource};
 use std::alloc::Global;
-use std::io::ErrorKind;
+use std::io;
 use std::process::ExitCode;
-use std::{env, io};
-
-/// The words behind the program's name. One that is no UTF-8 is an error.
-fn words(rt: &HostRuntime) -> io::Result<Vec<String>> {
-    let mut args = env::args(rt)?;
-    let _program = args.next();
-    Ok(args.collect(rt.alloc())?)
-}
 
 /// Runs with these words, and answers the status.
 fn run<S: Source, K: Sink, E: Sink>(
@@ -28,18 +21,16 @@ fn run<S: Source, K: Sink, E: Sink>(
     out: &mut K,
     err: &mut E,
 ) -> u8
-    ensures statuses { IsStatus result }
-    // The headline: a run with status 0 read the input to its end and wrote just the document of its page, by the plan of the
-    // words; or, where that has a seed, it wrote just the summary of the made page.
-    ensures done { result ≡ 0 → IfOk words (λ words. WritesOutput Program.Alone (map string_bytes words.items)
-        (S.view src.old).left (S.view src.new).left (K.view out.old).written (K.view out.new).written) }
-    // Where the words could not be read, the status is 2 or 7, and nothing is read or written to `out`.
-    ensures unreadable { IfErr words (λ _. ((result ≡ 2) ⊎ (result ≡ 7)) × (src.new ≡ src.old) × (out.new ≡ out.old)) }
+    // With words that were read, all that the run on one thread promises, the headline among it.
+    ensures readable { IfOk words (λ words. Runs Program.Alone (map string_bytes words.items)
+        (change S.view src.old src.new) (change K.view out.old out.new) (change E.view err.old err.new) result) }
+    // Where the words could not be read, 2 or 7 and its line, each for its cause.
+    ensures unreadable { IfErr words (λ fault. RunsUnread Program.Alone (error_kind fault)
+        (change S.view src.old src.new) (change K.view out.old out.new) (change E.view err.old err.new) result) }
 {
     match words {
         Ok(words) => layout_alone(alloc, &words, src, out, err),
-        Err(fault) if fault.kind() == ErrorKind::OutOfMemory => refuse(err, Refusal::Memory),
-        Err(_) => refuse(err, Refusal::Usage(Program::Alone)),
+        Err(fault) => refuse(err, refusal_of_unreadable(Program::Alone, &fault)),
     }
 }
 
@@ -47,6 +38,6 @@ fn main(rt: HostRuntime) -> ExitCode {
     let mut src = StdSource::new(rt.stdin());
     let mut out = StdSink::new(rt.stdout());
     let mut err = StdSink::new(rt.stderr());
-    let words = words(&rt);
+    let words = words_given(&rt);
     ExitCode::from(run(rt.alloc(), words, &mut src, &mut out, &mut err))
 }

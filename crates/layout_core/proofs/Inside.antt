@@ -66,15 +66,18 @@ module _ (boxes gutters : List Rect) (height : ℕ) (whole : Rect) (all : All (E
   line_inside : (alive : List ℕ) (line : Line) → IsBestLine boxes gutters height alive line → Encloses whole line.bbox
   line_inside alive line best = (best.bbox).least whole (round_all boxes whole line.members all)
 
-  marks_inside : (alive : List ℕ) (lines : List Line) → IsLineList boxes gutters height alive lines → All (λ mark. Encloses whole mark.bbox) (map mark_of lines)
-  marks_inside alive [] list = All-nil (λ (mark : Mark). Encloses whole mark.bbox)
-  marks_inside alive (line ∷ lines) list = All-cons (λ (mark : Mark). Encloses whole mark.bbox) (mark_of line) (map mark_of lines) (line_inside alive line list.0) (marks_inside (without line.members alive) lines list.1)
+  lines_inside : (alive : List ℕ) (lines : List Line) → IsLineList boxes gutters height alive lines → All (λ line. Encloses whole line.bbox) lines
+  lines_inside alive [] list = All-nil (λ (line : Line). Encloses whole line.bbox)
+  lines_inside alive (line ∷ lines) list =
+      All-cons (λ (line : Line). Encloses whole line.bbox) line lines (line_inside alive line list.0) (lines_inside (without line.members alive) lines list.1)
 
   -- the boxes of the numbered lines lie on the page
   pub numbered_inside : (alive : List ℕ) (lines : List Line) (marks : List Mark) → IsLineList boxes gutters height alive lines → IsNumbered lines marks → All (Encloses whole) (map box_of marks)
-  numbered_inside alive lines marks list numbered =
-      All-map (Encloses whole) box_of marks
-      (All-permutation (λ (mark : Mark). Encloses whole mark.bbox) (map mark_of lines) marks numbered.rearranged (marks_inside alive lines list))
+  numbered_inside alive lines marks list is =
+      rw is.shown
+      (All-map (Encloses whole) box_of (map mark_of is.numbered)
+      (All-map (λ (mark : Mark). Encloses whole mark.bbox) mark_of is.numbered
+      (All-permutation (λ (line : Line). Encloses whole line.bbox) lines is.numbered is.rearranged (lines_inside alive lines list))))
 
 module _ (boxes gutters : List Rect) (height : ℕ) (high : height ≤ 8192) where
   line_mark : (alive : List ℕ) (line : Line) → IsBestLine boxes gutters height alive line → IsMark (mark_of line)
@@ -82,10 +85,12 @@ module _ (boxes gutters : List Rect) (height : ℕ) (high : height ≤ 8192) whe
       let point = (best.admissible).scored.point in
       record { slope = point.slope_in; offset = record { low = point.low; high = omega (arith, ints, point.high) } }
 
-  marks_on_grid : (alive : List ℕ) (lines : List Line) → IsLineList boxes gutters height alive lines → All IsMark (map mark_of lines)
-  marks_on_grid alive [] list = All-nil IsMark
-  marks_on_grid alive (line ∷ lines) list = All-cons IsMark (mark_of line) (map mark_of lines) (line_mark alive line list.0) (marks_on_grid (without line.members alive) lines list.1)
+  lines_on_grid : (alive : List ℕ) (lines : List Line) → IsLineList boxes gutters height alive lines → All (λ line. IsMark (mark_of line)) lines
+  lines_on_grid alive [] list = All-nil (λ (line : Line). IsMark (mark_of line))
+  lines_on_grid alive (line ∷ lines) list =
+      All-cons (λ (line : Line). IsMark (mark_of line)) line lines (line_mark alive line list.0) (lines_on_grid (without line.members alive) lines list.1)
 
   -- the numbered lines are of the grid
   pub numbered_on_grid : (alive : List ℕ) (lines : List Line) (marks : List Mark) → IsLineList boxes gutters height alive lines → IsNumbered lines marks → All IsMark marks
-  numbered_on_grid alive lines marks list numbered = All-permutation IsMark (map mark_of lines) marks numbered.rearranged (marks_on_grid alive lines list)
+  numbered_on_grid alive lines marks list is =
+      rw is.shown (All-map IsMark mark_of is.numbered (All-permutation (λ (line : Line). IsMark (mark_of line)) lines is.numbered is.rearranged (lines_on_grid alive lines list)))

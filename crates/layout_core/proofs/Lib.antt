@@ -1,4 +1,4 @@
-pub mod Ends
+pub mod Endings
 pub mod Components
 pub mod Rising
 pub mod Inside

@@ -2,8 +2,8 @@
 use Rattle.std.proofs.Common.{◌≡◌, ◌∙◌, ℕ, List, Option, None, Some, ap}
 use Rattle.command_words.specs.declared.plan.Plan.{Plan}
 use Rattle.command_words.specs.declared.plan.Program.{Program}
-use Rattle.command_words.specs.Plans.{HasPlan, HasNoPlan}
-use Rattle.layout_core.specs.Status.{IsReading, IsMaking}
+use Rattle.command_words.specs.Plans.{HasPlan}
+use Rattle.layout_core.specs.Run.{IsReading, IsMaking}
 
 -- words have one plan at most
 abbrev pub OnePlan : Type 0
@@ -12,14 +12,21 @@ OnePlan = (program : Program) (words : List (List ℕ)) (p q : Plan) → HasPlan
 make_of : Plan → Option ℕ
 make_of plan = plan.make
 
-pub reads : OnePlan → (program : Program) (words : List (List ℕ)) (plan : Plan) → HasPlan program words plan → IsReading program words → plan.make ≡ None
+reads : OnePlan → (program : Program) (words : List (List ℕ)) (plan : Plan) → HasPlan program words plan → IsReading program words → plan.make ≡ None
 unfolding make_of
 reads one program words plan has told = ap make_of (one program words plan told.0 has told.1) ∙ told.2
 
-pub makes : OnePlan → (program : Program) (words : List (List ℕ)) (plan : Plan) → HasPlan program words plan → (told : IsMaking program words) → plan.make ≡ Some told.1
+makes : OnePlan → (program : Program) (words : List (List ℕ)) (plan : Plan) → HasPlan program words plan → (told : IsMaking program words) → plan.make ≡ Some told.1
 unfolding make_of
 makes one program words plan has told = ap make_of (one program words plan told.0 has told.2) ∙ told.3
 
--- words without a plan tell nothing
-pub not_making : (program : Program) (words : List (List ℕ)) → HasNoPlan program words → IsMaking program words → ⊥
-not_making program words none told = none told.0 told.2
+never_both : (make : Option ℕ) (seed : ℕ) → make ≡ None → make ≡ Some seed → ⊥
+never_both make seed none some = cc (none, some)
+
+-- words whose plan has no seed make no page
+pub not_making : OnePlan → (program : Program) (words : List (List ℕ)) (plan : Plan) → HasPlan program words plan → plan.make ≡ None → IsMaking program words → ⊥
+not_making one program words plan has none told = never_both plan.make told.1 none (makes one program words plan has told)
+
+-- words whose plan has a seed read no page
+pub not_reading : OnePlan → (program : Program) (words : List (List ℕ)) (plan : Plan) (seed : ℕ) → HasPlan program words plan → plan.make ≡ Some seed → IsReading program words → ⊥
+not_reading one program words plan seed has some told = never_both plan.make seed (reads one program words plan has told) some

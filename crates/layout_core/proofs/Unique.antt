@@ -6,6 +6,7 @@ use Rattle.std.proofs.lemmas.Cmp.{nat_cmp_total}
 use Rattle.std.proofs.lemmas.List.MinMax.{ranks_by}
 use Rattle.std.specs.Io.KnownBytes.{append_known}
 use Rattle.pbm_reader.specs.Page.{Page}
+use Rattle.pbm_reader.specs.Spelling.{Spells}
 use Rattle.layout_geom.specs.declared.rect.Rect.{Rect}
 use Rattle.layout_geom.specs.declared.area.Area.{Area}
 use Rattle.layout_geom.specs.declared.order.Order.{Order}
@@ -26,11 +27,11 @@ use Rattle.hocr_writer.specs.Document.{document_of}
 use Rattle.hocr_writer.specs.Summary.{summary_of}
 use Rattle.made_page.specs.Made.{made_page}
 use Rattle.command_words.specs.declared.plan.Plan.{Plan}
-use Rattle.command_words.specs.declared.plan.Program.{Program}
 use Rattle.command_words.specs.Plans.{HasPlan}
-use Rattle.layout_core.specs.Numbering.{mark_of, box_of, compare_marks, IsNumbered}
+use Rattle.layout_core.specs.declared.page_layout.TheConstants.{LEAST_SIZE}
+use Rattle.layout_core.specs.Numbering.{mark_of, box_of, compare_lines, IsNumbered}
 use Rattle.layout_core.specs.Layouts.{IsLayout}
-use Rattle.layout_core.specs.Run.{WritesDocument, WritesSummary, WritesOutput}
+use Rattle.layout_core.specs.Run.{RunAccount, ReadsWhole, IsDocument, IsSummary, IsOutput, WritesOutput}
 use Rattle.layout_core.specs.Unique.{AskTheSame, LayoutIsUnique}
 use Rattle.layout_core.proofs.Stable.{one_stable_sort, one_rising}
 use Rattle.layout_core.proofs.Components.{SpellsOne, whole_is}
@@ -76,14 +77,16 @@ same_lines unique k l gs hs height xs ys low kepts gutters is is_too =
     let here : AreLinesOf l hs height xs = subst (λ (g : List Rect). AreLinesOf l g height xs) gutters (subst (λ (j : Kept). AreLinesOf j gs height xs) kepts is) in
     unique l hs height xs ys low here is_too
 
-marks_rank : IsStrictWeakOrder (λ (x y : Mark). is_lt (compare_marks x y))
-marks_rank =
-    ranks_by (then_total (on_total (λ (mark : Mark). mark.bbox.y0 + mark.bbox.y1) nat_cmp_total) (on_total (λ (mark : Mark). mark.bbox.x0) nat_cmp_total)) (λ (mark : Mark). mark)
+lines_rank : IsStrictWeakOrder (λ (x y : Line). is_lt (compare_lines x y))
+lines_rank =
+    ranks_by (then_total (on_total (λ (line : Line). line.bbox.y0 + line.bbox.y1) nat_cmp_total) (on_total (λ (line : Line). line.bbox.x0) nat_cmp_total)) (λ (line : Line). line)
 
 same_marks : (xs ys : List Line) (ms ns : List Mark) → xs ≡ ys → IsNumbered xs ms → IsNumbered ys ns → ms ≡ ns
 same_marks xs ys ms ns found is is_too =
     let here : IsNumbered ys ms = rw found at is in
-    one_stable_sort (λ (x y : Mark). is_lt (compare_marks x y)) marks_rank (map mark_of ys) ms ns here.sorted here.stable is_too.sorted is_too.stable
+    let numbered : here.numbered ≡ is_too.numbered =
+    one_stable_sort (λ (x y : Line). is_lt (compare_lines x y)) lines_rank ys here.numbered is_too.numbered here.sorted here.stable is_too.sorted is_too.stable in
+    here.shown ∙ ap (map mark_of) numbered ∙ sym is_too.shown
 
 same_order : OrderIsUnique → (ms ns : List Mark) (o p : Order) → ms ≡ ns → IsReadingOrder (map box_of ms) o → IsReadingOrder (map box_of ns) p → o ≡ p
 same_order unique ms ns o p marks is is_too =
@@ -111,7 +114,7 @@ one_layout laws p q same page l m is is_too =
     let medians : is.kept.median ≡ is_too.kept.median = one_median (map height_of is.kept.boxes) (map height_of is_too.kept.boxes) is.kept.median is_too.kept.median (ap (map height_of) boxes) is.is_kept.median is_too.is_kept.median in
     let kepts : is.kept ≡ is_too.kept = same_kept is.kept is_too.kept boxes medians in
     let wholes : is.whole ≡ is_too.whole = same_whole is.whole is_too.whole page.width page.height is.sides is_too.sides in
-    let whites : l.whites ≡ m.whites = same_cover laws.cover is.whole is_too.whole is.kept.boxes is_too.kept.boxes (max is.kept.median 8) (max is_too.kept.median 8) p.rects q.rects l.whites m.whites wholes boxes (ap (λ (n : ℕ). max n 8) medians) same.rects is.cover is_too.cover in
+    let whites : l.whites ≡ m.whites = same_cover laws.cover is.whole is_too.whole is.kept.boxes is_too.kept.boxes (max is.kept.median LEAST_SIZE) (max is_too.kept.median LEAST_SIZE) p.rects q.rects l.whites m.whites wholes boxes (ap (λ (n : ℕ). max n LEAST_SIZE) medians) same.rects is.cover is_too.cover in
     let gutters : l.gutters ≡ m.gutters = same_gutters is.kept is_too.kept l.whites m.whites l.gutters m.gutters kepts whites is.gutters_are is_too.gutters_are in
     let found : is.found ≡ is_too.found = same_lines laws.lines is.kept is_too.kept l.gutters m.gutters page.height is.found is_too.found (low_enough is.whole page.width page.height is.sides) kepts gutters is.are_lines is_too.are_lines in
     let lines : l.lines ≡ m.lines = same_marks is.found is_too.found l.lines m.lines found is.numbered is_too.numbered in
@@ -148,9 +151,9 @@ also_same p q p' q' first second same =
       make = ap make_in first ∙ same.make ∙ sym (ap make_in second);
     }
 
-module _ (laws : Laws) (one_page : SpellsOne) (one_plan : OnePlan) (first second : Program) (words others : List (List ℕ)) (p q : Plan) (has : HasPlan first words p) (has_too : HasPlan second others q) (same : AskTheSame p q) where
-  same_here : (p' q' : Plan) → HasPlan first words p' → HasPlan second others q' → AskTheSame p' q'
-  same_here p' q' is is_too = also_same p q p' q' (one_plan first words p' p is has) (one_plan second others q' q is_too has_too) same
+module _ (laws : Laws) (one_page : SpellsOne) (one_plan : OnePlan) (run other : RunAccount) (p q : Plan) (has : HasPlan run.program run.words p) (has_too : HasPlan other.program other.words q) (same : AskTheSame p q) where
+  same_here : (p' q' : Plan) → HasPlan run.program run.words p' → HasPlan other.program other.words q' → AskTheSame p' q'
+  same_here p' q' is is_too = also_same p q p' q' (one_plan run.program run.words p' p is has) (one_plan other.program other.words q' q is_too has_too) same
 
   never_both : (p' q' : Plan) (seed : ℕ) → AskTheSame p' q' → p'.make ≡ None → q'.make ≡ Some seed → ⊥
   never_both p' q' seed asks none some = cc (asks.make, none, some)
@@ -161,25 +164,52 @@ module _ (laws : Laws) (one_page : SpellsOne) (one_plan : OnePlan) (first second
   one_seed : (p' q' : Plan) (seed other : ℕ) → AskTheSame p' q' → p'.make ≡ Some seed → q'.make ≡ Some other → seed ≡ other
   one_seed p' q' seed other asks some some_too = cc (asks.make, some, some_too)
 
-  module _ (input : List ℕ) (left left_too out_old out_new out_too : Option (List ℕ)) where
-    both_documents : WritesDocument first words (Some input) left out_old out_new → WritesDocument second others (Some input) left_too out_old out_too → out_new ≡ out_too
-    both_documents w v =
-        let asks = same_here w.plan v.plan w.planned v.planned in
-        let pages : w.page ≡ v.page = one_page input w.page v.page (whole_is (Some input) left input w.page refl w.reads) (whole_is (Some input) left_too input v.page refl v.reads) in
-        let here : IsLayout w.plan v.page w.layout = subst (λ (page : Page). IsLayout w.plan page w.layout) pages w.is_layout in
-        let layouts : w.layout ≡ v.layout = one_layout laws w.plan v.plan asks v.page w.layout v.layout here v.is_layout in
-        w.writes ∙ ap (λ (layout : Layout). append_known out_old (document_of layout)) layouts ∙ sym v.writes
+  -- the page that one run read is the page that the other read
+  abbrev pub SameRead : Type 0
+  SameRead = (page page' : Page) → ReadsWhole run.source_before run.source_after page → ReadsWhole other.source_before other.source_after page' → page ≡ page'
 
-    both_summaries : WritesSummary first words out_old out_new → WritesSummary second others out_old out_too → out_new ≡ out_too
-    both_summaries w v =
-        let asks = same_here w.plan v.plan w.planned v.planned in
-        let seeds : w.seed ≡ v.seed = one_seed w.plan v.plan w.seed v.seed asks w.making v.making in
-        let here : IsLayout w.plan (made_page v.seed) w.layout = subst (λ (seed : ℕ). IsLayout w.plan (made_page seed) w.layout) seeds w.is_layout in
-        let layouts : w.layout ≡ v.layout = one_layout laws w.plan v.plan asks (made_page v.seed) w.layout v.layout here v.is_layout in
-        w.writes ∙ ap (λ (layout : Layout). append_known out_old (summary_of layout)) layouts ∙ sym v.writes
+  same_documents : SameRead → (text text' : List ℕ) → IsDocument run text → IsDocument other text' → text ≡ text'
+  same_documents read text text' d e =
+      let asks = same_here d.plan e.plan d.planned e.planned in
+      let p = d.document in
+      let q = e.document in
+      let pages : p.page ≡ q.page = read p.page q.page p.reads q.reads in
+      let here : IsLayout d.plan q.page p.layout = subst (λ (page : Page). IsLayout d.plan page p.layout) pages p.is_layout in
+      let layouts : p.layout ≡ q.layout = one_layout laws d.plan e.plan asks q.page p.layout q.layout here q.is_layout in
+      p.text_is ∙ ap document_of layouts ∙ sym q.text_is
 
-    pub one_output : WritesOutput first words (Some input) left out_old out_new → WritesOutput second others (Some input) left_too out_old out_too → out_new ≡ out_too
-    one_output (inl w) (inl v) = both_documents w v
-    one_output (inl w) (inr v) = absurd (never_both w.plan v.plan v.seed (same_here w.plan v.plan w.planned v.planned) w.reading v.making)
-    one_output (inr w) (inl v) = absurd (never_so w.plan v.plan w.seed (same_here w.plan v.plan w.planned v.planned) w.making v.reading)
-    one_output (inr w) (inr v) = both_summaries w v
+  same_summaries : (text text' : List ℕ) → IsSummary run text → IsSummary other text' → text ≡ text'
+  same_summaries text text' d e =
+      let asks = same_here d.plan e.plan d.planned e.planned in
+      let p = d.summary in
+      let q = e.summary in
+      let seeds : d.seed ≡ e.seed = one_seed d.plan e.plan d.seed e.seed asks d.making e.making in
+      let here : IsLayout d.plan (made_page e.seed) p.layout = subst (λ (seed : ℕ). IsLayout d.plan (made_page seed) p.layout) seeds p.is_layout in
+      let layouts : p.layout ≡ q.layout = one_layout laws d.plan e.plan asks (made_page e.seed) p.layout q.layout here q.is_layout in
+      p.text_is ∙ ap summary_of layouts ∙ sym q.text_is
+
+  same_texts : SameRead → (text text' : List ℕ) → IsOutput run text → IsOutput other text' → text ≡ text'
+  same_texts read text text' (inl d) (inl e) = same_documents read text text' d e
+  same_texts read text text' (inl d) (inr e) = absurd (never_both d.plan e.plan e.seed (same_here d.plan e.plan d.planned e.planned) d.reading e.making)
+  same_texts read text text' (inr d) (inl e) = absurd (never_so d.plan e.plan d.seed (same_here d.plan e.plan d.planned e.planned) d.making e.reading)
+  same_texts read text text' (inr d) (inr e) = same_summaries text text' d e
+
+  pub one_output : SameRead → run.out_before.written ≡ other.out_before.written → WritesOutput run → WritesOutput other → run.out_after.written ≡ other.out_after.written
+  one_output read before w v =
+      w.whole
+      ∙ ap (λ (text : List ℕ). append_known run.out_before.written text) (same_texts read w.text v.text w.is_output v.is_output)
+      ∙ ap (λ (known : Option (List ℕ)). append_known known v.text) before
+      ∙ sym v.whole
+
+  -- both inputs spell one page
+  pub same_spelled : (input input' : List ℕ) (page page' : Page) → run.source_before.left ≡ Some input → other.source_before.left ≡ Some input'
+      → Spells input page → Spells input' page' → page ≡ page' → SameRead
+  same_spelled input input' page page' told told' spells spells' same read read' reads reads' =
+      one_page input read page (whole_is run.source_before run.source_after input read told reads) spells
+      ∙ same
+      ∙ one_page input' page' read' spells' (whole_is other.source_before other.source_after input' read' told' reads')
+
+  -- both inputs are one
+  pub same_input : (input : List ℕ) → run.source_before.left ≡ Some input → other.source_before.left ≡ Some input → SameRead
+  same_input input told told' read read' reads reads' =
+      one_page input read read' (whole_is run.source_before run.source_after input read told reads) (whole_is other.source_before other.source_after input read' told' reads')

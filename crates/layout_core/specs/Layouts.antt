@@ -16,12 +16,14 @@ use Rattle.hocr_writer.specs.declared.layout.Layout.{Layout}
 use Rattle.hocr_writer.specs.Listing.{listing_of}
 use Rattle.command_words.specs.declared.plan.Plan.{Plan}
 use Rattle.layout_core.specs.Numbering.{box_of, IsNumbered}
+use Rattle.layout_core.specs.declared.page_layout.TheConstants.{LEAST_SIZE}
 use Rattle.layout_core.specs.declared.page_layout.CoreFault.{CoreFault}
 use Rattle.layout_core.specs.declared.page_layout.CoreFault.TheVariants as faults
 
--- The layout of a page by a plan: its kept components, the greedy cover of its white space by at most as many rectangles as planned, each at
--- least as wide and as high as the median height and as 8 pixels, the gutters among them, the greedy lines of its text in the order of their
--- numbers, the order in which they are read, or the cycle that forbids one, and the areas that their listing falls into.
+-- The layout of a page by a plan: its kept components, the greedy cover of its white space by at most as many rectangles as
+-- planned, each at least as wide and as high as the median height and as 8 pixels, the gutters among them, the greedy lines of its
+-- text in the order of their numbers, the order in which they are read, or the cycle that forbids one, and the areas that their
+-- listing falls into.
 pub record IsLayout (plan : Plan) (page : Page) (layout : Layout) : Type 0 where
   pub kept : Kept
   pub is_kept : IsKeptOf page kept
@@ -33,7 +35,7 @@ pub record IsLayout (plan : Plan) (page : Page) (layout : Layout) : Type 0 where
   pub black_is : layout.black ≡ black_of page
   pub kept_is : layout.kept ≡ length kept.boxes
   pub median_is : layout.median ≡ kept.median
-  pub cover : IsCover whole kept.boxes (max kept.median 8) plan.rects layout.whites
+  pub cover : IsCover whole kept.boxes (max kept.median LEAST_SIZE) plan.rects layout.whites
   pub gutters_are : layout.gutters ≡ gutters_of kept layout.whites
   pub image_is : layout.image ≡ plan.image
   pub found : List Line

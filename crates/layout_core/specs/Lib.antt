@@ -4,6 +4,7 @@ pub mod Layouts
 pub mod Found
 pub mod Run
 pub mod Refused
-pub mod Line
+pub mod RefusalLines
 pub mod Status
+pub mod Words
 pub mod Unique

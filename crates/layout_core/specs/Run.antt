@@ -1,9 +1,11 @@
--- What a run reads and writes.
-use Rattle.std.specs.Prelude.{◌≡◌, ◌<◌, ◌⊎◌, ℕ, List, Option, None, Some, take, length}
-use Rattle.std.specs.Io.KnownBytes.{append_known}
+-- What a run did: what it was told, what it read, and what it wrote.
+use Rattle.std.specs.Prelude.{◌≡◌, ◌⊎◌, ℕ, List, None, Some}
+use Rattle.layout_outside.specs.Views.{SourceView, SinkView}
+use Rattle.layout_outside.specs.Taken.{TookAll}
+use Rattle.layout_outside.specs.Written.{Appended, AppendedPart}
 use Rattle.pbm_reader.specs.Page.{Page}
 use Rattle.pbm_reader.specs.Spelling.{Spells}
-use Rattle.pbm_reader.specs.Left.{TookAll}
+use Rattle.page_runs.specs.Packed.{Packed, Holds, IsWhole}
 use Rattle.hocr_writer.specs.declared.layout.Layout.{Layout}
 use Rattle.hocr_writer.specs.Document.{document_of}
 use Rattle.hocr_writer.specs.Summary.{summary_of}
@@ -13,75 +15,97 @@ use Rattle.command_words.specs.declared.plan.Program.{Program}
 use Rattle.command_words.specs.Plans.{HasPlan}
 use Rattle.layout_core.specs.Layouts.{IsLayout, HasTooMany}
 
--- the input was read to its end, and it spells the page
-pub record ReadsWhole (old new : Option (List ℕ)) (page : Page) : Type 0 where
+-- What a run did: the program, the words behind its name, what contracts see of the three streams before and after, and the
+-- status that it answered.
+pub record RunAccount : Type 0 where
+  pub program : Program
+  pub words : List (List ℕ)
+  pub source_before : SourceView
+  pub source_after : SourceView
+  pub out_before : SinkView
+  pub out_after : SinkView
+  pub err_before : SinkView
+  pub err_after : SinkView
+  pub status : ℕ
+
+-- ---- what the words tell
+
+-- The words tell the program what to do.
+abbrev pub IsPlanned : Program → List (List ℕ) → Type 0
+IsPlanned program words = (plan : Plan) × HasPlan program words plan
+
+-- They tell it to read a page.
+abbrev pub IsReading : Program → List (List ℕ) → Type 0
+IsReading program words = (plan : Plan) × HasPlan program words plan × (plan.make ≡ None)
+
+-- They tell it to make a page from a seed.
+abbrev pub IsMaking : Program → List (List ℕ) → Type 0
+IsMaking program words = (plan : Plan) × (seed : ℕ) × HasPlan program words plan × (plan.make ≡ Some seed)
+
+-- ---- what was read
+
+-- The input was read until the source answered its end, and it spells the page.
+pub record ReadsWhole (before after : SourceView) (page : Page) : Type 0 where
   pub input : List ℕ
-  pub took : TookAll old new input
+  pub took : TookAll before after input
   pub spells : Spells input page
 
--- the input was read to its end, it spells a page, and this is the page's layout by the plan
-pub record ReadsLayout (plan : Plan) (old new : Option (List ℕ)) (layout : Layout) : Type 0 where
+-- The input was read to its end, it spells a page, and these are the page's rows.
+pub record ReadsRows (before after : SourceView) (rows : Packed) : Type 0 where
   pub page : Page
-  pub reads : ReadsWhole old new page
-  pub is_layout : IsLayout plan page layout
+  pub reads : ReadsWhole before after page
+  pub whole : IsWhole rows
+  pub held : Holds rows page
 
--- the input was read to its end, and it spells a page with too many kept components
-pub record ReadsTooMany (old new : Option (List ℕ)) (count : ℕ) : Type 0 where
+-- The input was read to its end, and it spells a page of which so many components are kept, and that is too many.
+pub record ReadsTooMany (before after : SourceView) (count : ℕ) : Type 0 where
   pub page : Page
-  pub reads : ReadsWhole old new page
+  pub reads : ReadsWhole before after page
   pub too_many : HasTooMany page count
 
--- the words have a plan without a seed, the input was read to its end, it spells a page, and the document of the page's layout by that plan
--- was written and nothing else
-pub record WritesDocument (program : Program) (words : List (List ℕ)) (source_old source_new out_old out_new : Option (List ℕ)) : Type 0 where
-  pub plan : Plan
-  pub planned : HasPlan program words plan
-  pub reading : plan.make ≡ None
-  pub page : Page
-  pub layout : Layout
-  pub reads : ReadsWhole source_old source_new page
-  pub is_layout : IsLayout plan page layout
-  pub writes : out_new ≡ append_known out_old (document_of layout)
+-- ---- what was written
 
--- the same, but a proper front of the document was written
-pub record FrontOfDocument (program : Program) (words : List (List ℕ)) (source_old source_new out_old out_new : Option (List ℕ)) : Type 0 where
-  pub plan : Plan
-  pub planned : HasPlan program words plan
-  pub reading : plan.make ≡ None
+-- The input was read to its end, it spells a page, and the text is the document of the page's layout by the plan.
+pub record ReadsDocument (plan : Plan) (before after : SourceView) (text : List ℕ) : Type 0 where
   pub page : Page
+  pub reads : ReadsWhole before after page
   pub layout : Layout
-  pub reads : ReadsWhole source_old source_new page
   pub is_layout : IsLayout plan page layout
-  pub count : ℕ
-  pub proper : count < length (document_of layout)
-  pub writes : out_new ≡ append_known out_old (take count (document_of layout))
+  pub text_is : text ≡ document_of layout
 
--- the words have a plan with a seed, and the summary of the layout, by that plan, of the page of the seed was written and nothing else
-pub record WritesSummary (program : Program) (words : List (List ℕ)) (out_old out_new : Option (List ℕ)) : Type 0 where
-  pub plan : Plan
-  pub planned : HasPlan program words plan
-  pub seed : ℕ
-  pub making : plan.make ≡ Some seed
+-- The text is the summary of the layout, by the plan, of the page of the seed.
+pub record IsSummaryOf (plan : Plan) (seed : ℕ) (text : List ℕ) : Type 0 where
   pub layout : Layout
   pub is_layout : IsLayout plan (made_page seed) layout
-  pub writes : out_new ≡ append_known out_old (summary_of layout)
+  pub text_is : text ≡ summary_of layout
 
--- the same, but a proper front of the summary was written
-pub record FrontOfSummary (program : Program) (words : List (List ℕ)) (out_old out_new : Option (List ℕ)) : Type 0 where
+-- The words have a plan without a seed, and the text is the document, by that plan, of the page that was read.
+pub record IsDocument (run : RunAccount) (text : List ℕ) : Type 0 where
   pub plan : Plan
-  pub planned : HasPlan program words plan
+  pub planned : HasPlan run.program run.words plan
+  pub reading : plan.make ≡ None
+  pub document : ReadsDocument plan run.source_before run.source_after text
+
+-- The words have a plan with a seed, and the text is the summary, by that plan, of the page that was made.
+pub record IsSummary (run : RunAccount) (text : List ℕ) : Type 0 where
+  pub plan : Plan
+  pub planned : HasPlan run.program run.words plan
   pub seed : ℕ
   pub making : plan.make ≡ Some seed
-  pub layout : Layout
-  pub is_layout : IsLayout plan (made_page seed) layout
-  pub count : ℕ
-  pub proper : count < length (summary_of layout)
-  pub writes : out_new ≡ append_known out_old (take count (summary_of layout))
+  pub summary : IsSummaryOf plan seed text
 
--- the document of the page that was read, or the summary of the page that was made, as the words plan
-abbrev pub WritesOutput : Program → List (List ℕ) → Option (List ℕ) → Option (List ℕ) → Option (List ℕ) → Option (List ℕ) → Type 0
-WritesOutput program words source_old source_new out_old out_new = WritesDocument program words source_old source_new out_old out_new ⊎ WritesSummary program words out_old out_new
+-- The text is the document of the page that was read, or the summary of the page that was made, as the words plan.
+abbrev pub IsOutput : RunAccount → List ℕ → Type 0
+IsOutput run text = IsDocument run text ⊎ IsSummary run text
 
--- a proper front of it
-abbrev pub FrontOfOutput : Program → List (List ℕ) → Option (List ℕ) → Option (List ℕ) → Option (List ℕ) → Option (List ℕ) → Type 0
-FrontOfOutput program words source_old source_new out_old out_new = FrontOfDocument program words source_old source_new out_old out_new ⊎ FrontOfSummary program words out_old out_new
+-- Just the output was written to `out`.
+pub record WritesOutput (run : RunAccount) : Type 0 where
+  pub text : List ℕ
+  pub is_output : IsOutput run text
+  pub whole : Appended run.out_before run.out_after text
+
+-- Just a proper front of the output was written to `out`.
+pub record WritesFront (run : RunAccount) : Type 0 where
+  pub text : List ℕ
+  pub is_output : IsOutput run text
+  pub part : AppendedPart run.out_before run.out_after text

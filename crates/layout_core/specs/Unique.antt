@@ -1,12 +1,12 @@
 -- What is defined of a page and of a run is one thing, so that two runs on one input write the same.
-use Rattle.std.specs.Prelude.{◌≡◌, ℕ, List, Option, Some}
+use Rattle.std.specs.Prelude.{◌≡◌, ℕ, List, Some}
 use Rattle.pbm_reader.specs.Page.{Page}
+use Rattle.pbm_reader.specs.Spelling.{Spells}
 use Rattle.command_words.specs.declared.plan.Plan.{Plan}
-use Rattle.command_words.specs.declared.plan.Program.{Program}
 use Rattle.command_words.specs.Plans.{HasPlan}
 use Rattle.hocr_writer.specs.declared.layout.Layout.{Layout}
 use Rattle.layout_core.specs.Layouts.{IsLayout}
-use Rattle.layout_core.specs.Run.{WritesOutput}
+use Rattle.layout_core.specs.Run.{RunAccount, WritesOutput}
 
 -- The plans ask for the same. They may differ in the number of workers.
 pub record AskTheSame (p q : Plan) : Type 0 where
@@ -21,6 +21,15 @@ LayoutIsUnique = (p q : Plan) → AskTheSame p q → (page : Page) (l m : Layout
 -- Two runs, of one program or of both, whose words have plans that ask for the same, write the same for one input.
 abbrev pub OutputIsUnique : Type 0
 OutputIsUnique =
-    (first second : Program) (words others : List (List ℕ)) (p q : Plan) → HasPlan first words p → HasPlan second others q → AskTheSame p q
-    → (input : List ℕ) (left left_too out_old out_new out_too : Option (List ℕ))
-    → WritesOutput first words (Some input) left out_old out_new → WritesOutput second others (Some input) left_too out_old out_too → out_new ≡ out_too
+    (run other : RunAccount) (p q : Plan) → HasPlan run.program run.words p → HasPlan other.program other.words q → AskTheSame p q
+    → (input : List ℕ) → run.source_before.left ≡ Some input → other.source_before.left ≡ Some input
+    → run.out_before.written ≡ other.out_before.written → WritesOutput run → WritesOutput other
+    → run.out_after.written ≡ other.out_after.written
+
+-- Two such runs write the same for two inputs that spell one page, however each spells it.
+abbrev pub PageDecidesOutput : Type 0
+PageDecidesOutput =
+    (run other : RunAccount) (p q : Plan) → HasPlan run.program run.words p → HasPlan other.program other.words q → AskTheSame p q
+    → (input respelled : List ℕ) (page : Page) → run.source_before.left ≡ Some input → other.source_before.left ≡ Some respelled
+    → Spells input page → Spells respelled page → run.out_before.written ≡ other.out_before.written → WritesOutput run → WritesOutput other
+    → run.out_after.written ≡ other.out_after.written

@@ -1,81 +1,108 @@
 //! A run whose words have a plan, by any searchers.
-ghost use Rattle.std.specs.Prelude.{◌≡◌, ◌≢◌, ◌⊎◌, ◌≤◌, ℕ, List, None, Some, map, string_bytes};
-ghost use Rattle.layout_outside.specs.Causes.{Rose};
-ghost use Rattle.pbm_reader.specs.declared.fault.PageFault.{PageFault};
-ghost use Rattle.pbm_reader.specs.Page.{Page};
-ghost use Rattle.pbm_reader.specs.Spelling.{Spells};
-ghost use Rattle.pbm_reader.specs.Fault.{HasFault};
+ghost use Rattle.std.specs.Prelude.{◌≡◌, ◌≤◌, IfOk, IfErr, map, string_bytes};
 ghost use Rattle.command_words.specs.Plans.{HasPlan};
-ghost use Rattle.layout_core.specs.Layouts.{HasFewComponents, HasTooMany};
-ghost use Rattle.layout_core.specs.Run.{WritesOutput, FrontOfOutput};
-ghost use Rattle.layout_core.specs.Line.{line_of, fault_line};
-ghost use Rattle.layout_core.specs.Status.{IsStatus, fault_status, WritesLine, RefusesPage, RefusesComponents, IsUndecided};
-ghost use Rattle.layout_core.specs.declared.refusal.Refusal.{Refusal};
+ghost use Rattle.layout_core.specs.Status.{Finishes, Runs, change};
+ghost use Rattle.layout_core.specs.Words.{RefusesWords};
 
-use crate::document::write_document;
-use crate::summary::write_summary;
+use crate::document::read_document;
+use crate::refusal::{Refusal, refuse};
+use crate::summary::make_summary;
 use box_search::Searcher;
-use command_words::{Plan, Program};
-use layout_outside::{Sink, Source};
+use command_words::{Plan, Program, WordFault, words_have_one_plan, words_of};
+use layout_outside::{Sink, Source, put_all};
 use line_search::Grid;
 use std::alloc::Global;
 use whitespace_cover::White;
 
-/// Does what the plan says: reads a page from the source and writes the document of its layout to `out`, or makes the page
-/// of a seed and writes the summary of its layout. It answers the status of the run, which is not 2. The words are those of
-/// the program, and this is their plan.
+/// What a run shall do: the words of its command line, and their plan.
+#[derive(Drop)]
+pub(crate) struct Job<'a> {
+    /// The program whose words they are.
+    pub program: Program,
+    /// The words behind the program's name.
+    pub words: &'a [String],
+    /// The plan of the words.
+    pub plan: Plan,
+}
+
+/// The streams of a run.
+#[derive(Drop)]
+pub(crate) struct Streams<'a, S: Source, K: Sink, E: Sink> {
+    /// Where the page comes from.
+    pub source: &'a mut S,
+    /// Where the document or the summary goes.
+    pub out: &'a mut K,
+    /// Where the line of a refusal goes.
+    pub err: &'a mut E,
+}
+
+/// The ways to search for the parts of a layout.
+#[derive(Drop)]
+pub struct Searchers<F: Searcher<White>, G: Searcher<Grid>> {
+    /// Searches for white rectangles.
+    pub whites: F,
+    /// Searches for text lines.
+    pub lines: G,
+}
+
+/// The plan of the words behind a program's name, or the refusal of words that have none.
+pub(crate) fn plan_of(alloc: Global, words: &[String], program: Program) -> Result<Plan, Refusal>
+    ensures plan { IfOk result (HasPlan program (map string_bytes words.now)) }
+    ensures rects { IfOk result (λ plan. (1 ≤ plan.rects) × (plan.rects ≤ 256)) }
+    ensures workers { IfOk result (λ plan. (1 ≤ plan.workers) × (plan.workers ≤ 64)) }
+    ensures refused { IfErr result (RefusesWords program (map string_bytes words.now)) }
+{
+    match words_of(alloc, words, program) {
+        Ok(plan) => Ok(plan),
+        Err(fault) => match fault {
+            WordFault::Usage => Err(Refusal::Usage(program)),
+            WordFault::Memory => Err(Refusal::Memory),
+        },
+    }
+}
+
+/// Writes the text to `out`, or the line of a refusal to `err`, and answers the status of the run.
+fn finish<K: Sink, E: Sink>(text: Result<Vec<u8>, Refusal>, out: &mut K, err: &mut E) -> u8
+    ensures { Finishes (err.new ≡ err.old) (out.new ≡ out.old) (K.view out.old) (K.view out.new) (E.view err.old) (E.view err.new)
+        text (λ text. text.items) result }
+{
+    match text {
+        Ok(text) => match put_all(out, &text) {
+            Ok(()) => 0,
+            Err(_) => refuse(err, Refusal::WriteFault),
+        },
+        Err(refusal) => refuse(err, refusal),
+    }
+}
+
+/// Does what the job's plan says: reads a page from the source and writes the document of its layout to `out`, or makes the
+/// page of a seed and writes the summary of its layout. It answers the status of the run, which is not 2.
 pub(crate) fn lay_out<F: Searcher<White>, G: Searcher<Grid>, S: Source, K: Sink, E: Sink>(
     alloc: Global,
-    program: Program,
-    words: &[String],
-    plan: &Plan,
-    for_whites: &mut F,
-    for_lines: &mut G,
-    src: &mut S,
-    out: &mut K,
-    err: &mut E,
+    job: &Job<'_>,
+    searchers: &mut Searchers<F, G>,
+    streams: Streams<'_, S, K, E>,
 ) -> u8
-    requires planned { HasPlan program (map string_bytes words.now) plan.now }
-    requires whites_ready { F.ready for_whites.old }
-    requires lines_ready { G.ready for_lines.old }
-    requires some { 1 ≤ plan.now.rects }
-    requires few { plan.now.rects ≤ 256 }
-    ensures statuses { IsStatus result × (result ≢ 2) }
-    ensures done { result ≡ 0 → WritesOutput program (map string_bytes words.now)
-        (S.view src.old).left (S.view src.new).left (K.view out.old).written (K.view out.new).written }
-    ensures silent { result ≡ 0 → err.new ≡ err.old }
-    ensures unread { (seed : ℕ) → plan.now.make ≡ Some seed → src.new ≡ src.old }
-    ensures bad_page { result ≡ 3 → (plan.now.make ≡ None) × RefusesPage 3 (S.view src.old).left
-        (E.view err.old).written (E.view err.new).written (E.view err.old).faults (E.view err.new).faults }
-    ensures faulty { plan.now.make ≡ None → (input : List ℕ) (fault : PageFault) → (S.view src.old).left ≡ Some input → HasFault input fault
-        → ¬ Rose (S.view src.old).faults (S.view src.new).faults → (result ≡ fault_status fault) ⊎ (result ≡ 7) }
-    ensures limited { result ≡ 4 → (plan.now.make ≡ None) × (RefusesPage 4 (S.view src.old).left
-        (E.view err.old).written (E.view err.new).written (E.view err.old).faults (E.view err.new).faults
-        ⊎ RefusesComponents (S.view src.old).left (S.view src.new).left
-        (E.view err.old).written (E.view err.new).written (E.view err.old).faults (E.view err.new).faults) }
-    ensures limit { plan.now.make ≡ None → (input : List ℕ) (page : Page) (count : ℕ) → (S.view src.old).left ≡ Some input → Spells input page
-        → HasTooMany page count → ¬ Rose (S.view src.old).faults (S.view src.new).faults → (result ≡ 4) ⊎ (result ≡ 7) }
-    ensures read_fault { result ≡ 5 → (plan.now.make ≡ None) × Rose (S.view src.old).faults (S.view src.new).faults
-        × IsUndecided (S.view src.old).left (S.view src.new).left
-        × WritesLine (E.view err.old).written (E.view err.new).written (E.view err.old).faults (E.view err.new).faults (fault_line PageFault.ReadFault) }
-    ensures write_fault { result ≡ 6 → Rose (K.view out.old).faults (K.view out.new).faults
-        × FrontOfOutput program (map string_bytes words.now) (S.view src.old).left (S.view src.new).left (K.view out.old).written (K.view out.new).written
-        × WritesLine (E.view err.old).written (E.view err.new).written (E.view err.old).faults (E.view err.new).faults (line_of Refusal.WriteFault) }
-    ensures memory { result ≡ 7 →
-        WritesLine (E.view err.old).written (E.view err.new).written (E.view err.old).faults (E.view err.new).faults (line_of Refusal.Memory) }
-    ensures unwritten { result ≢ 0 → result ≢ 6 → out.new ≡ out.old }
-    ensures complete { plan.now.make ≡ None → (input : List ℕ) (page : Page) → (S.view src.old).left ≡ Some input → Spells input page
-        → HasFewComponents page → ¬ Rose (S.view src.old).faults (S.view src.new).faults
-        → (result ≡ 0) ⊎ ((result ≡ 6) × Rose (K.view out.old).faults (K.view out.new).faults) ⊎ (result ≡ 7) }
-    ensures made { (seed : ℕ) → plan.now.make ≡ Some seed
-        → (result ≡ 0) ⊎ ((result ≡ 6) × Rose (K.view out.old).faults (K.view out.new).faults) ⊎ (result ≡ 7) }
+    requires planned { HasPlan job.now.program (map string_bytes job.now.words.now) job.now.plan }
+    requires ready { F.ready searchers.old.whites × G.ready searchers.old.lines }
+    requires some { 1 ≤ job.now.plan.rects }
+    requires few { job.now.plan.rects ≤ 256 }
+    ensures { Runs job.now.program (map string_bytes job.now.words.now)
+        (change S.view streams.entry.source.now streams.exit.0.now)
+        (change K.view streams.entry.out.now streams.exit.1.0.now)
+        (change E.view streams.entry.err.now streams.exit.1.1.0.now)
+        result }
 {
-    match plan.make {
-        None => write_document(
-            alloc, program, words, plan, for_whites, for_lines, src, out, err,
-        ),
-        Some(seed) => write_summary(
-            alloc, program, words, plan, seed, for_whites, for_lines, out, err,
-        ),
+    // The law of the words.
+    words_have_one_plan();
+    let Streams { source, out, err } = streams;
+    match job.plan.make {
+        Some(seed) => {
+            let text = make_summary(alloc, &job.plan, seed, searchers);
+            return finish(text, out, err);
+        }
+        None => {}
     }
+    let text = read_document(alloc, &job.plan, searchers, source);
+    finish(text, out, err)
 }

@@ -1,5 +1,5 @@
 //! The law of the runs: what they write is one thing.
-ghost use Rattle.layout_core.specs.Unique.{LayoutIsUnique, OutputIsUnique};
+ghost use Rattle.layout_core.specs.Unique.{LayoutIsUnique, OutputIsUnique, PageDecidesOutput};
 
 use command_words::words_have_one_plan;
 use components::kept_is_unique;
@@ -8,12 +8,14 @@ use pbm_reader::each_input_is_judged;
 use reading_order::order_and_areas_are_unique;
 use whitespace_cover::cover_is_unique;
 
-/// States two laws, and does nothing: a page has one layout by all plans with the same rectangles, image and seed, and two
-/// runs that end with status 0 write the same for one input where their words have such plans. So the bytes of `layout` are
-/// those of `layout1`, whatever the number of workers and their schedule.
+/// States three laws, and does nothing: a page has one layout by all plans with the same rectangles, image and seed; two runs
+/// that end with status 0 write the same for one input where their words have such plans; and so they do for two inputs that
+/// spell one page. So the bytes of `layout` are those of `layout1`, whatever the number of workers and their schedule, and equal
+/// pages have equal documents, whatever their form, comments, white bytes and padding bits are.
 pub fn output_is_unique()
     ensures one_layout { LayoutIsUnique }
     ensures one_output { OutputIsUnique }
+    ensures one_document { PageDecidesOutput }
 {
     each_input_is_judged();
     words_have_one_plan();

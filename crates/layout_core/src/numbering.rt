@@ -10,9 +10,10 @@ ghost use Rattle.layout_core.specs.Numbering.{mark_of, box_of, IsNumbered};
 
 use hocr_writer::{Mark, Marks};
 use layout_geom::{Areas, Numbers, Order, Rect, Rects};
+use layout_limits::OutOfMemory;
 use line_search::{Line, Lines};
 use reading_order::areas_of;
-use std::alloc::{AllocError as OutOfMemory, Global};
+use std::alloc::Global;
 
 /// What the document shows of a line.
 fn mark_of_line(line: &Line) -> Mark
@@ -31,18 +32,18 @@ fn marks_of(alloc: Global, lines: &[Line]) -> Result<Vec<Mark>, OutOfMemory>
     lines.iter().map(mark_of_line).collect(alloc)
 }
 
-/// The lines in the order of their numbers: by `y0 + y1`, then by `x0`, and then as they were found.
-pub(crate) fn number_lines(alloc: Global, found: &Lines) -> Result<Marks, OutOfMemory>
-    ensures { IfOk result (IsNumbered found.now) }
+/// What the document shows of the lines, in the order of their numbers: by `y0 + y1`, then by `x0`, and then as they were found.
+pub(crate) fn number_lines(alloc: Global, found: Lines) -> Result<Marks, OutOfMemory>
+    ensures { IfOk result (IsNumbered found) }
 {
-    let _count = found.len();
-    let mut marks = marks_of(alloc, found.as_slice())?;
-    marks.sort_by_key(|mark| {
+    let mut lines = found.into_vec();
+    lines.sort_by_key(|line| {
         (
-            u32::from(mark.bbox.y0()) + u32::from(mark.bbox.y1()),
-            mark.bbox.x0(),
+            u32::from(line.bbox.y0()) + u32::from(line.bbox.y1()),
+            line.bbox.x0(),
         )
     })?;
+    let marks = marks_of(alloc, lines.as_slice())?;
     Ok(Marks::from_vec(marks))
 }
 
@@ -56,6 +57,7 @@ fn sides_of(alloc: Global, marks: &[Mark]) -> Result<Vec<Rect>, OutOfMemory>
 pub(crate) fn boxes_of(alloc: Global, marks: &Marks) -> Result<Rects, OutOfMemory>
     ensures { IfOk result (λ boxes. boxes ≡ map box_of marks.now) }
 {
+    // `len` tells that there are fewer than 2^32 of them, so that a list can hold their boxes.
     let _count = marks.len();
     let boxes = sides_of(alloc, marks.as_slice())?;
     Ok(Rects::from_vec(boxes))

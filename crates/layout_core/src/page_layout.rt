@@ -5,6 +5,7 @@ ghost use Rattle.page_runs.specs.Packed.{Holds, IsWhole, page_of};
 ghost use Rattle.layout_geom.specs.Rectangles.{HasSides};
 ghost use Rattle.layout_core.specs.Layouts.{IsLayout, IsCoreFault};
 
+use crate::job::Searchers;
 use crate::numbering::{areas_in, boxes_of, number_lines};
 use box_search::Searcher;
 use command_words::Plan;
@@ -12,14 +13,15 @@ use components::{CompFault, components};
 use gutters::gutters;
 use hocr_writer::Layout;
 use layout_geom::{Name, Rect};
+use layout_limits::OutOfMemory;
 use line_search::{Grid, lines};
 use page_runs::RunPage;
 use reading_order::order_of;
-use std::alloc::{AllocError, Global};
+use std::alloc::Global;
 use whitespace_cover::{White, cover};
 
 /// The least width and height of a white rectangle in pixels, where the median height is less.
-const LEAST_SIZE: u16 = 8;
+pub const LEAST_SIZE: u16 = 8;
 
 /// Why a page has no layout.
 #[derive(Debug, Clone, Copy, PartialEq, Eq, Drop)]
@@ -44,13 +46,13 @@ impl From<CompFault> for CoreFault {
     }
 }
 
-impl From<AllocError> for CoreFault {
+impl From<OutOfMemory> for CoreFault {
     ghost use Rattle.std.specs.Prelude.{◌≡◌};
     ghost use Rattle.layout_core.specs.declared.page_layout.CoreFault.TheVariants.{Memory};
 
     ghost from_gives = { λ _ core. core ≡ Memory };
 
-    fn from(_: AllocError) -> CoreFault {
+    fn from(_: OutOfMemory) -> CoreFault {
         CoreFault::Memory
     }
 }
@@ -64,32 +66,32 @@ fn page_rect(page: &RunPage) -> Rect
 }
 
 /// The name of an image, in a list of its own.
-fn copy_of(alloc: Global, name: &Name) -> Result<Name, AllocError>
+fn copy_of(alloc: Global, name: &Name) -> Result<Name, OutOfMemory>
     ensures { IfOk result (λ copy. copy ≡ name.now) }
 {
+    // `len` tells that it has fewer than 2^32 bytes, so that a list can hold the copy.
     let _count = name.len();
-    let copy = Vec::from_slice(alloc, name.as_slice())?;
+    let copy = name.as_slice().to_vec(alloc)?;
     Ok(Name::from_vec(copy))
 }
 
-/// The layout of a page by a plan, by any searcher of white rectangles and any of lines: its black pixels, its kept components and their median height, the
-/// greedy cover of its white space (Breuel 2002) by at most as many rectangles as planned, each at least as wide and as
-/// high as the median height and as 8 pixels, the gutters among them, the greedy lines of its text, the order in which they are read
-/// (Breuel 2003), and the areas that they form.
+/// The layout of a page by a plan, by any searcher of white rectangles and any of lines: its black pixels, its kept components
+/// and their median height, the greedy cover of its white space (Breuel 2002) by at most as many rectangles as planned, each at
+/// least as wide and as high as the median height and as 8 pixels, the gutters among them, the greedy lines of its text, the order
+/// in which they are read (Breuel 2003), and the areas that they form.
 ///
 /// It refuses a page of which more than 60,000 components are kept, and for want of memory.
 pub fn layout_of<F: Searcher<White>, G: Searcher<Grid>>(
     alloc: Global,
     page: &RunPage,
     plan: &Plan,
-    for_whites: &mut F,
-    for_lines: &mut G,
+    searchers: &mut Searchers<F, G>,
 ) -> Result<Layout, CoreFault>
-    requires whites_ready { F.ready for_whites.old }
-    requires lines_ready { G.ready for_lines.old }
+    requires ready { F.ready searchers.old.whites × G.ready searchers.old.lines }
     requires whole { IsWhole page.now }
     requires some { 1 ≤ plan.now.rects }
     requires few { plan.now.rects ≤ 256 }
+    ensures ready { F.ready searchers.new.whites × G.ready searchers.new.lines }
     // The page is each one whose pixels these are.
     ensures layout { (held : Page) → Holds page.now held → IfOk result (IsLayout plan.now held) }
     ensures fault { (held : Page) → Holds page.now held → IfErr result (IsCoreFault held) }
@@ -103,11 +105,11 @@ pub fn layout_of<F: Searcher<White>, G: Searcher<Grid>>(
         &kept.boxes,
         least,
         plan.rects as u32,
-        for_whites,
+        &mut searchers.whites,
     )?;
     let gutters = gutters(alloc, &whites, &kept)?;
-    let found = lines(alloc, &kept, &gutters, page.height(), for_lines)?;
-    let lines = number_lines(alloc, &found)?;
+    let found = lines(alloc, &kept, &gutters, page.height(), &mut searchers.lines)?;
+    let lines = number_lines(alloc, found)?;
     let boxes = boxes_of(alloc, &lines)?;
     let order = order_of(alloc, &boxes)?;
     let areas = areas_in(alloc, &boxes, &order, kept.median)?;

@@ -1,14 +1,20 @@
 //! How a run ends without a document: its status, and its line on `err`.
 ghost use Rattle.std.specs.Prelude.{◌≡◌, ◌++◌, ◌≤◌, length, codes, decimal};
-ghost use Rattle.layout_core.specs.Line.{usage_of, place_line, size_line, fault_line, line_of};
-ghost use Rattle.layout_core.specs.Status.{fault_status, status_of, WritesLine};
+ghost use Rattle.layout_outside.specs.Written.{WritesText};
+ghost use Rattle.std.specs.IoError.{error_kind};
+ghost use Rattle.layout_core.specs.RefusalLines.{usage_of, place_line, size_limit_line, fault_line, refusal_line};
+ghost use Rattle.layout_core.specs.Status.{fault_status, status_of};
+ghost use Rattle.layout_core.specs.Words.{IsUnreadable};
 
 use crate::page_layout::CoreFault;
 use arrayvec::ArrayString;
 use command_words::Program;
 use itoa::Buffer;
+use layout_limits::OutOfMemory;
 use layout_outside::{Sink, put_all};
 use pbm_reader::PageFault;
+use std::io;
+use std::io::ErrorKind;
 
 /// A line that takes no memory: the longest has 69 bytes.
 pub type Line = ArrayString<80>;
@@ -53,6 +59,17 @@ impl From<CoreFault> for Refusal {
     }
 }
 
+impl From<OutOfMemory> for Refusal {
+    ghost use Rattle.std.specs.Prelude.{◌≡◌};
+    ghost use Rattle.layout_core.specs.declared.refusal.Refusal.TheVariants.{Memory};
+
+    ghost from_gives = { λ _ refusal. refusal ≡ Memory };
+
+    fn from(_: OutOfMemory) -> Refusal {
+        Refusal::Memory
+    }
+}
+
 impl Refusal {
     /// The status of the run.
     pub fn status(&self) -> u8
@@ -68,9 +85,9 @@ impl Refusal {
     }
 
     /// The line that says why, with a line feed at its end.
-    #[tactic(auto, unfolding(crate::specs::Line::line_of))]
+    #[tactic(auto, unfolding(crate::specs::RefusalLines::refusal_line))]
     pub fn line(&self) -> Line
-        ensures { result.bytes ≡ line_of self.now }
+        ensures { result.bytes ≡ refusal_line self.now }
     {
         match self {
             Refusal::Usage(program) => line_of_usage(*program),
@@ -85,11 +102,21 @@ impl Refusal {
 /// Writes the refusal's line, and answers its status. A fault of the sink changes no status.
 pub fn refuse<E: Sink>(err: &mut E, refusal: Refusal) -> u8
     ensures status { result ≡ status_of refusal }
-    ensures line { WritesLine (E.view err.old).written (E.view err.new).written (E.view err.old).faults (E.view err.new).faults (line_of refusal) }
+    ensures line { WritesText (E.view err.old) (E.view err.new) (refusal_line refusal) }
 {
     let line = refusal.line();
     let _ = put_all(err, line.as_str().as_bytes());
     refusal.status()
+}
+
+/// The refusal of words that could not be read: want of memory, or else a word that is no text, and so has no plan.
+pub fn refusal_of_unreadable(program: Program, fault: &io::Error) -> Refusal
+    ensures { IsUnreadable program (error_kind fault.now) result }
+{
+    match fault.kind() {
+        ErrorKind::OutOfMemory => Refusal::Memory,
+        _ => Refusal::Usage(program),
+    }
 }
 
 /// The status of a page that was not read.
@@ -167,7 +194,7 @@ fn line_of_usage(program: Program) -> Line
 
 /// The line that tells the sizes of a page that is too large.
 fn line_of_size(width: u32, height: u32) -> Line
-    ensures { result.bytes ≡ size_line width height }
+    ensures { result.bytes ≡ size_limit_line width height }
 {
     let mut buffer = Buffer::new();
     let mut line = Line::new();

@@ -1,21 +1,17 @@
-//! A run on a page that is made from a seed.
-ghost use Rattle.std.specs.Prelude.{◌≡◌, ◌⊎◌, ◌≤◌, Some, IfOk, map, string_bytes};
-ghost use Rattle.layout_outside.specs.Causes.{Rose};
+//! The summary of the page that is made from a seed.
+ghost use Rattle.std.specs.Prelude.{◌≡◌, ◌≤◌, IfOk, IfErr};
 ghost use Rattle.made_page.specs.Made.{made_page};
-ghost use Rattle.command_words.specs.Plans.{HasPlan};
 ghost use Rattle.layout_core.specs.Layouts.{IsLayout};
-ghost use Rattle.layout_core.specs.Run.{WritesSummary, FrontOfSummary};
-ghost use Rattle.layout_core.specs.Line.{line_of};
-ghost use Rattle.layout_core.specs.Status.{WritesLine};
+ghost use Rattle.layout_core.specs.Run.{IsSummaryOf};
 ghost use Rattle.layout_core.specs.declared.refusal.Refusal.{Refusal};
 
+use crate::job::Searchers;
 use crate::page_layout::{CoreFault, layout_of};
-use crate::refusal::{Refusal, refuse};
+use crate::refusal::Refusal;
 use box_search::Searcher;
-use command_words::{Plan, Program};
+use command_words::Plan;
 use hocr_writer::{Layout, summary_text};
 use layout_limits::OutOfMemory;
-use layout_outside::{Sink, put_all};
 use line_search::Grid;
 use made_page::{made_page_has_few_components, make_page};
 use std::alloc::Global;
@@ -27,18 +23,16 @@ fn made_layout<F: Searcher<White>, G: Searcher<Grid>>(
     alloc: Global,
     plan: &Plan,
     seed: u64,
-    for_whites: &mut F,
-    for_lines: &mut G,
+    searchers: &mut Searchers<F, G>,
 ) -> Result<Layout, OutOfMemory>
-    requires whites_ready { F.ready for_whites.old }
-    requires lines_ready { G.ready for_lines.old }
+    requires ready { F.ready searchers.old.whites × G.ready searchers.old.lines }
     requires some { 1 ≤ plan.now.rects }
     requires few { plan.now.rects ≤ 256 }
-    ensures layout { IfOk result (IsLayout plan.now (made_page seed)) }
+    ensures { IfOk result (IsLayout plan.now (made_page seed)) }
 {
     made_page_has_few_components();
     let page = make_page(alloc, seed)?;
-    match layout_of(alloc, &page, plan, for_whites, for_lines) {
+    match layout_of(alloc, &page, plan, searchers) {
         Ok(layout) => Ok(layout),
         Err(fault) => match fault {
             CoreFault::TooMany { .. } => unreachable!(),
@@ -47,42 +41,19 @@ fn made_layout<F: Searcher<White>, G: Searcher<Grid>>(
     }
 }
 
-/// Makes the page of a seed, writes the summary of its layout by the plan to `out`, and answers the status of the run: 0,
-/// 6 or 7. The words are those of the program, and this is their plan, which has the seed.
-pub(crate) fn write_summary<F: Searcher<White>, G: Searcher<Grid>, K: Sink, E: Sink>(
+/// Makes the page of a seed, and answers the summary of its layout by the plan. The one refusal is want of memory.
+pub(crate) fn make_summary<F: Searcher<White>, G: Searcher<Grid>>(
     alloc: Global,
-    program: Program,
-    words: &[String],
     plan: &Plan,
     seed: u64,
-    for_whites: &mut F,
-    for_lines: &mut G,
-    out: &mut K,
-    err: &mut E,
-) -> u8
-    requires planned { HasPlan program (map string_bytes words.now) plan.now }
-    requires making { plan.now.make ≡ Some seed }
-    requires whites_ready { F.ready for_whites.old }
-    requires lines_ready { G.ready for_lines.old }
+    searchers: &mut Searchers<F, G>,
+) -> Result<Vec<u8>, Refusal>
+    requires ready { F.ready searchers.old.whites × G.ready searchers.old.lines }
     requires some { 1 ≤ plan.now.rects }
     requires few { plan.now.rects ≤ 256 }
-    ensures statuses { (result ≡ 0) ⊎ ((result ≡ 6) × Rose (K.view out.old).faults (K.view out.new).faults) ⊎ (result ≡ 7) }
-    ensures done { result ≡ 0 → WritesSummary program (map string_bytes words.now) (K.view out.old).written (K.view out.new).written }
-    ensures silent { result ≡ 0 → err.new ≡ err.old }
-    ensures write_fault { result ≡ 6 → FrontOfSummary program (map string_bytes words.now) (K.view out.old).written (K.view out.new).written
-        × WritesLine (E.view err.old).written (E.view err.new).written (E.view err.old).faults (E.view err.new).faults (line_of Refusal.WriteFault) }
-    ensures memory { result ≡ 7 →
-        WritesLine (E.view err.old).written (E.view err.new).written (E.view err.old).faults (E.view err.new).faults (line_of Refusal.Memory) }
-    ensures unwritten { result ≡ 7 → out.new ≡ out.old }
+    ensures summary { IfOk result (λ text. IsSummaryOf plan.now seed text.items) }
+    ensures refused { IfErr result (λ refusal. refusal ≡ Refusal.Memory) }
 {
-    let Ok(layout) = made_layout(alloc, plan, seed, for_whites, for_lines) else {
-        return refuse(err, Refusal::Memory);
-    };
-    let Ok(text) = summary_text(alloc, &layout) else {
-        return refuse(err, Refusal::Memory);
-    };
-    match put_all(out, &text) {
-        Ok(()) => 0,
-        Err(_) => refuse(err, Refusal::WriteFault),
-    }
+    let layout = made_layout(alloc, plan, seed, searchers)?;
+    Ok(summary_text(alloc, &layout)?)
 }

@@ -1,4 +1,5 @@
-use Rattle.layout_core.proofs.Unique.{Laws, one_layout, one_output}
+use Rattle.std.proofs.Common.{refl}
+use Rattle.layout_core.proofs.Unique.{Laws, one_layout, one_output, same_input, same_spelled}
 use Rattle.layout_core.proofs.law.output_is_unique.Goals as goal
 
 pub returns : goal.returns
@@ -10,8 +11,14 @@ returns c =
       order = c.order_and_areas_are_unique.ensures.one_order;
       areas = c.order_and_areas_are_unique.ensures.one_list_of_areas;
     } in
+    let one_page = c.each_input_is_judged.ensures.one_page in
+    let one_plan = c.words_have_one_plan.ensures.one_plan in
     record {
       one_layout = one_layout laws;
-      one_output = λ first second words others p q has has_too same input left left_too out_old out_new out_too.
-          one_output laws c.each_input_is_judged.ensures.one_page c.words_have_one_plan.ensures.one_plan first second words others p q has has_too same input left left_too out_old out_new out_too;
+      one_output = λ run other p q has has_too same input told told_too.
+          one_output laws one_page one_plan run other p q has has_too same
+          (same_input laws one_page one_plan run other p q has has_too same input told told_too);
+      one_document = λ run other p q has has_too same input respelled page told told_too spells spells_too.
+          one_output laws one_page one_plan run other p q has has_too same
+          (same_spelled laws one_page one_plan run other p q has has_too same input respelled page page told told_too spells spells_too refl);
     }

@@ -1,92 +1,13 @@
-//! Pages of a few blocks, with documents that were worked out by hand.
-use crate::{layout_alone, layout_shared};
-use layout_outside::{MemSink, MemSource};
-use lease_workers::OpenGate;
+//! Worked pages and their documents.
+use super::blocks::{Block, heading_over_two_columns, page, two_columns};
+use super::devices::{in_pieces, run, run_of};
+use crate::Program;
 use std::alloc::Global;
 use std::sync::Wait;
 use std::test::Fail;
 use std::thread::Threads;
 
-type Block = [u16; 4];
-
-// A page in raw PBM, of which just the pixels of half-open blocks are black.
-fn page(alloc: Global, width: u16, height: u16, blocks: &[Block]) -> Result<Vec<u8>, Fail> {
-    let mut input = format!(in alloc; "P4\n{width} {height}\n")?.into_bytes();
-    for y in 0..height {
-        for byte in 0..width.div_ceil(8) {
-            input.push(packed(blocks, byte, y))?;
-        }
-    }
-    Ok(input)
-}
-
-// A byte of a row: eight pixels.
-fn packed(blocks: &[Block], byte: u16, y: u16) -> u8 {
-    let mut bits = 0u8;
-    for place in 0..8u32 {
-        if is_black(blocks, byte as u32 * 8 + place, y) {
-            bits |= 0x80 >> place;
-        }
-    }
-    bits
-}
-
-fn is_black(blocks: &[Block], x: u32, y: u16) -> bool {
-    for [x0, y0, x1, y1] in blocks {
-        if *x0 as u32 <= x && x < *x1 as u32 && *y0 <= y && y < *y1 {
-            return true;
-        }
-    }
-    false
-}
-
-// What the run on one thread writes of a page.
-fn laid_out_alone(alloc: Global, input: &[u8]) -> Result<MemSink, Fail> {
-    let mut src = MemSource::new(input.to_vec(alloc)?, 4096, Vec::new(alloc));
-    let mut out = MemSink::with_room(alloc, 8192, 4096, Vec::new(alloc))?;
-    let mut err = MemSink::with_room(alloc, 80, 80, Vec::new(alloc))?;
-    match layout_alone(alloc, &[], &mut src, &mut out, &mut err) {
-        0 => Ok(out),
-        _ => Err("no document")?,
-    }
-}
-
-// What a run by some workers writes of a page.
-fn laid_out_shared<R: Threads + Wait + Sync>(
-    rt: &R,
-    alloc: Global,
-    workers: &str,
-    input: &[u8],
-) -> Result<MemSink, Fail> {
-    let mut words = Vec::new(alloc);
-    words.push(String::from_str(alloc, "--workers")?)?;
-    words.push(String::from_str(alloc, workers)?)?;
-    let mut src = MemSource::new(input.to_vec(alloc)?, 4096, Vec::new(alloc));
-    let mut out = MemSink::with_room(alloc, 8192, 4096, Vec::new(alloc))?;
-    let mut err = MemSink::with_room(alloc, 80, 80, Vec::new(alloc))?;
-    let status = layout_shared(rt, alloc, &words, &mut src, &mut out, &mut err, &OpenGate);
-    match status {
-        0 => Ok(out),
-        _ => Err("no document")?,
-    }
-}
-
-// What a run writes of a page: on one thread, and the same by 1, 2 and 7 workers.
-fn laid_out<R: Threads + Wait + Sync>(
-    rt: &R,
-    alloc: Global,
-    input: Vec<u8>,
-) -> Result<MemSink, Fail> {
-    let out = laid_out_alone(alloc, &input)?;
-    for workers in ["1", "2", "7"] {
-        let shared = laid_out_shared(rt, alloc, workers, &input)?;
-        if shared.as_slice() != out.as_slice() {
-            Err("the workers wrote another document")?;
-        }
-    }
-    Ok(out)
-}
-
+/// What each document without a cycle begins with.
 const FRONT: &[u8] = b"\
 <!DOCTYPE html>\n\
 <html>\n\
@@ -100,21 +21,37 @@ const FRONT: &[u8] = b"\
 <body>\n\
 ";
 
-const TOUCHING_CORNERS: &[u8] = b"\
-<div class='ocr_page' id='page_0' title='bbox 0 0 40 40; ppageno 0; x_black 200'>\n\
-<div class='ocrx_whitespace' id='white_0_0' title='bbox 20 0 40 40'></div>\n\
-<div class='ocrx_whitespace' id='white_0_1' title='bbox 0 20 20 40'></div>\n\
+/// What each document ends with.
+const END: &[u8] = b"\
 </div>\n\
 </body>\n\
 </html>\n\
 ";
 
+const BLANK_PAGE: &[u8] = b"\
+<div class='ocr_page' id='page_0' title='bbox 0 0 16 16; ppageno 0; x_black 0'>\n\
+<div class='ocrx_whitespace' id='white_0_0' title='bbox 0 0 16 16'></div>\n\
+";
+
+/// The body of the document of a block of 3 by 3 in the corner of a page of 16 by 16.
+pub(super) const CORNER_BLOCK: &[u8] = b"\
+<div class='ocr_page' id='page_0' title='bbox 0 0 16 16; ppageno 0; x_black 9'>\n\
+<div class='ocrx_whitespace' id='white_0_0' title='bbox 3 0 16 16'></div>\n\
+";
+
+const PADDING_BITS: &[u8] = b"\
+<div class='ocr_page' id='page_0' title='bbox 0 0 9 2; ppageno 0; x_black 0'>\n\
+";
+
+const TOUCHING_CORNERS: &[u8] = b"\
+<div class='ocr_page' id='page_0' title='bbox 0 0 40 40; ppageno 0; x_black 200'>\n\
+<div class='ocrx_whitespace' id='white_0_0' title='bbox 20 0 40 40'></div>\n\
+<div class='ocrx_whitespace' id='white_0_1' title='bbox 0 20 20 40'></div>\n\
+";
+
 const SPECK: &[u8] = b"\
 <div class='ocr_page' id='page_0' title='bbox 0 0 16 16; ppageno 0; x_black 4'>\n\
 <div class='ocrx_whitespace' id='white_0_0' title='bbox 0 0 16 16'></div>\n\
-</div>\n\
-</body>\n\
-</html>\n\
 ";
 
 const THREE_GLYPHS: &[u8] = b"\
@@ -128,9 +65,6 @@ const THREE_GLYPHS: &[u8] = b"\
 <div class='ocr_carea' id='area_0_0' title='bbox 10 10 60 20'>\n\
 <span class='ocr_line' id='line_0_0' title='bbox 10 10 60 20; baseline 0.000 0'></span>\n\
 </div>\n\
-</div>\n\
-</body>\n\
-</html>\n\
 ";
 
 const TWO_GLYPHS: &[u8] = b"\
@@ -140,9 +74,6 @@ const TWO_GLYPHS: &[u8] = b"\
 <div class='ocrx_whitespace' id='white_0_2' title='bbox 0 0 40 10'></div>\n\
 <div class='ocrx_whitespace' id='white_0_3' title='bbox 0 10 10 20'></div>\n\
 <div class='ocrx_whitespace' id='white_0_4' title='bbox 20 10 30 20'></div>\n\
-</div>\n\
-</body>\n\
-</html>\n\
 ";
 
 const TWO_COLUMNS: &[u8] = b"\
@@ -159,9 +90,6 @@ const TWO_COLUMNS: &[u8] = b"\
 <span class='ocr_line' id='line_0_3' title='bbox 48 14 82 24; baseline 0.000 0'></span>\n\
 <span class='ocr_line' id='line_0_5' title='bbox 48 26 82 36; baseline 0.000 0'></span>\n\
 </div>\n\
-</div>\n\
-</body>\n\
-</html>\n\
 ";
 
 const HEADING_OVER_TWO_COLUMNS: &[u8] = b"\
@@ -179,42 +107,60 @@ const HEADING_OVER_TWO_COLUMNS: &[u8] = b"\
 <span class='ocr_line' id='line_0_4' title='bbox 48 26 82 36; baseline 0.000 0'></span>\n\
 <span class='ocr_line' id='line_0_6' title='bbox 48 38 82 48; baseline 0.000 0'></span>\n\
 </div>\n\
-</div>\n\
-</body>\n\
-</html>\n\
 ";
 
-// The blocks of two columns, three rows of three blocks 10 by 10 in each, from a row on.
-fn two_columns(alloc: Global, top: u16) -> Result<Vec<Block>, Fail> {
-    let mut blocks = Vec::new(alloc);
-    for row in 0..3u16 {
-        for x in [2u16, 14, 26, 48, 60, 72] {
-            let y = top % 1000 + row * 12;
-            blocks.push([x, y, x + 10, y + 10])?;
-        }
-    }
-    Ok(blocks)
+/// The document with this body.
+pub(super) fn document(alloc: Global, body: &[u8]) -> Result<Vec<u8>, Fail> {
+    let mut text = FRONT.to_vec(alloc)?;
+    text.extend_from_slice(body)?;
+    text.extend_from_slice(END)?;
+    Ok(text)
 }
 
-// The same under a heading of seven blocks.
-fn heading_over_two_columns(alloc: Global) -> Result<Vec<Block>, Fail> {
-    let mut blocks = two_columns(alloc, 14)?;
-    for place in 0..7u16 {
-        blocks.push([2 + place * 12, 2, 12 + place * 12, 12])?;
+/// Whether both programs give an input the document with this body, in any pieces, and by 1, 2 and 7 workers too.
+fn gives<R: Threads + Wait + Sync>(
+    rt: &R,
+    alloc: Global,
+    input: &[u8],
+    body: &[u8],
+) -> Result<bool, Fail> {
+    let text = document(alloc, body)?;
+    for piece in [1, 16, 4096] {
+        let outcome = run(rt, alloc, &[], &in_pieces(input, piece))?;
+        if outcome.status != 0
+            || outcome.err.calls != 0
+            || outcome.out.as_slice() != text.as_slice()
+        {
+            return Ok(false);
+        }
     }
-    Ok(blocks)
+    for workers in ["1", "2", "7"] {
+        let outcome = run_of(
+            rt,
+            alloc,
+            Program::Shared,
+            &["--workers", workers],
+            &in_pieces(input, 4096),
+        )?;
+        if outcome.out.as_slice() != text.as_slice() {
+            return Ok(false);
+        }
+    }
+    Ok(true)
 }
 
 #[test]
-fn pages_of_blocks_give_their_documents(rt: HostRuntime) -> Result<(), Fail> {
+fn pages_give_their_documents(rt: HostRuntime) -> Result<(), Fail> {
+    let alloc = rt.alloc();
     let corners: &[Block] = &[[0, 0, 10, 10], [10, 10, 20, 20]];
-    let speck: &[Block] = &[[5, 5, 7, 7]];
     let three: &[Block] = &[[10, 10, 20, 20], [30, 10, 40, 20], [50, 10, 60, 20]];
-    let columns = two_columns(rt.alloc(), 2)?;
-    let heading = heading_over_two_columns(rt.alloc())?;
-    let cases = [
+    let columns = two_columns(alloc, 2)?;
+    let heading = heading_over_two_columns(alloc)?;
+    let cases: [(&str, u16, u16, &[Block], &[u8]); 8] = [
+        ("blank page", 16, 16, &[], BLANK_PAGE),
+        ("corner block", 16, 16, &[[0, 0, 3, 3]], CORNER_BLOCK),
         ("touching corners", 40, 40, corners, TOUCHING_CORNERS),
-        ("speck", 16, 16, speck, SPECK),
+        ("speck", 16, 16, &[[5, 5, 7, 7]], SPECK),
         ("three glyphs", 100, 40, three, THREE_GLYPHS),
         ("two glyphs", 100, 40, &three[..2], TWO_GLYPHS),
         ("two columns", 84, 41, columns.as_slice(), TWO_COLUMNS),
@@ -226,12 +172,22 @@ fn pages_of_blocks_give_their_documents(rt: HostRuntime) -> Result<(), Fail> {
             HEADING_OVER_TWO_COLUMNS,
         ),
     ];
-    for (name, width, height, blocks, rest) in cases {
-        let out = laid_out(&rt, rt.alloc(), page(rt.alloc(), width, height, blocks)?)?;
-        let Some(found) = out.as_slice().strip_prefix(FRONT) else {
-            return Err("another front")?;
-        };
-        assert_eq!(rt; found, rest, "{name}");
+    for (name, width, height, blocks, body) in cases {
+        let input = page(alloc, width, height, blocks)?;
+        assert!(rt; gives(&rt, alloc, &input, body)?, "{name}");
+    }
+    Ok(())
+}
+
+#[test]
+fn three_spellings_of_a_picture_give_one_document(rt: HostRuntime) -> Result<(), Fail> {
+    let spellings: [&[u8]; 3] = [
+        b"P4\n9 2\n\x00\x7f\x00\x7f",
+        b"P4\n9 2\n\0\0\0\0",
+        b"P1\n9 2\n000000000\n000000000\n",
+    ];
+    for input in spellings {
+        assert!(rt; gives(&rt, rt.alloc(), input, PADDING_BITS)?, "{input:?}");
     }
     Ok(())
 }
@@ -269,8 +225,15 @@ fn documents_have_slanted_lines_and_a_cycle_of_four(rt: HostRuntime) -> Result<(
         ),
     ];
     for (blocks, line) in cases {
-        let out = laid_out(&rt, rt.alloc(), page(rt.alloc(), 1010, 70, blocks)?)?;
-        assert!(rt; out.as_slice().windows(line.len()).any(|part| part == line));
+        let input = page(rt.alloc(), 1010, 70, blocks)?;
+        let outcome = run(&rt, rt.alloc(), &[], &in_pieces(&input, 4096))?;
+        assert!(rt;
+            outcome
+                .out
+                .as_slice()
+                .windows(line.len())
+                .any(|part| part == line)
+        );
     }
     Ok(())
 }

@@ -1,0 +1,14 @@
+use Rattle.std.proofs.Common.{refl}
+use Rattle.layout_core.proofs.Endings.{document_ends, summary_ends}
+use Rattle.layout_core.proofs.job.lay_out.Goals as goal
+
+pub returns : goal.returns
+returns g c =
+    let text = c.read_document-text in
+    document_ends _ _ _ _ c.words_have_one_plan.ensures.one_plan c.args.job.now.plan c.requires.planned c.in-None.is text.result (λ t. t.items) text.ensures c.finish-2.ensures
+
+pub returns-in-Some : goal.returns-in-Some
+returns-in-Some g c =
+    let text = c.make_summary-text in
+    summary_ends _ _ _ _ c.words_have_one_plan.ensures.one_plan c.args.job.now.plan c.requires.planned c.in-Some.seed c.in-Some.is text.result (λ t. t.items)
+    text.ensures.summary text.ensures.refused refl c.finish.ensures

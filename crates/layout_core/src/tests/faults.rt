@@ -1,0 +1,98 @@
+//! Faults of the input: their statuses and lines.
+use super::devices::{in_pieces, run};
+use std::alloc::Global;
+use std::test::Fail;
+
+#[test]
+fn faults_of_the_input_have_their_statuses_and_lines(rt: HostRuntime) -> Result<(), Fail> {
+    let faults: [(&[u8], u8, &[u8]); 17] = [
+        (b"", 3, b"bad page: magic at 0\n"),
+        (b"Q4", 3, b"bad page: magic at 0\n"),
+        (b"P", 3, b"bad page: magic at 1\n"),
+        (b"P5", 3, b"bad page: magic at 1\n"),
+        (b"P4", 3, b"bad page: truncated at 2\n"),
+        (b"P48 1\n", 3, b"bad page: header at 2\n"),
+        (b"P4\n16 x", 3, b"bad page: header at 6\n"),
+        (b"P4\n8 1#c\n\0", 3, b"bad page: header at 6\n"),
+        (b"P4\n0 99999\n", 3, b"bad page: zero size\n"),
+        (b"P4\n16 2\n\0\0\0", 3, b"bad page: truncated at 11\n"),
+        (b"P1\n2 1\n0x", 3, b"bad page: pixel at 8\n"),
+        (b"P1\n1 1\n01", 3, b"bad page: trailing at 8\n"),
+        (b"P4\n8 1\n\0\0", 3, b"bad page: trailing at 8\n"),
+        (b"P4\n8193 1\n", 4, b"limit: size 8193 by 1\n"),
+        (b"P4\n8192 4097\n", 4, b"limit: size 8192 by 4097\n"),
+        (b"P4\n99999999999 1\n", 4, b"limit: size 999999999 by 1\n"),
+        (
+            b"P4\n99999999999 99999999999\n",
+            4,
+            b"limit: size 999999999 by 999999999\n",
+        ),
+    ];
+    for piece in [1, 16] {
+        for (input, status, line) in faults {
+            let outcome = run(&rt, rt.alloc(), &[], &in_pieces(input, piece))?;
+            assert_eq!(rt; outcome.status, status, "{input:?}");
+            assert_eq!(rt; outcome.err.as_slice(), line, "{input:?}");
+            assert_eq!(rt; outcome.out.calls, 0, "{input:?}");
+        }
+    }
+    Ok(())
+}
+
+#[test]
+fn a_header_over_65536_bytes_is_a_limit(rt: HostRuntime) -> Result<(), Fail> {
+    let mut input = b"P4".to_vec(rt.alloc())?;
+    input.resize(65_536, b' ')?;
+    input.extend_from_slice(b"8 1\n")?;
+    let outcome = run(&rt, rt.alloc(), &[], &in_pieces(&input, 4096))?;
+    assert_eq!(rt; outcome.status, 4);
+    assert_eq!(rt;
+        outcome.err.as_slice(),
+        b"limit: header over 65536 bytes\n".as_slice()
+    );
+    Ok(())
+}
+
+// A page of 1000 by 481 with 240 rows of 250 blocks, each 3 wide and 1 high, and the first block of
+// one more row.
+fn blocks(alloc: Global) -> Result<Vec<u8>, Fail> {
+    let mut input = b"P4\n1000 481\n".to_vec(alloc)?;
+    for y in 0..480 {
+        let bits = if y % 2 == 0 { 0xee } else { 0 };
+        for _ in 0..125 {
+            input.push(bits)?;
+        }
+    }
+    input.push(0xe0)?;
+    for _ in 1..125 {
+        input.push(0)?;
+    }
+    Ok(input)
+}
+
+#[test]
+fn more_than_60000_components_are_refused(rt: HostRuntime) -> Result<(), Fail> {
+    let outcome = run(&rt, rt.alloc(), &[], &in_pieces(&blocks(rt.alloc())?, 4096))?;
+    assert_eq!(rt; outcome.status, 4);
+    assert_eq!(rt;
+        outcome.err.as_slice(),
+        b"limit: 60001 components\n".as_slice()
+    );
+    assert_eq!(rt; outcome.out.calls, 0);
+    Ok(())
+}
+
+#[test]
+fn no_read_is_made_once_a_fault_is_decided(rt: HostRuntime) -> Result<(), Fail> {
+    let cases: [(&[u8], u64); 4] = [
+        (b"Q4\n8 1\n\0", 1),
+        (b"P4\n0 1\n\0", 7),
+        (b"P4\n8 1\n\0\0\0\0", 9),
+        (b"P4\n8 1\n\0", 9),
+    ];
+    for (input, reads) in cases {
+        let outcome = run(&rt, rt.alloc(), &[], &in_pieces(input, 1))?;
+        assert_eq!(rt; outcome.reads, reads, "{input:?}");
+    }
+    Ok(())
+}
