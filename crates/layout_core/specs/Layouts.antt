@@ -5,6 +5,7 @@ use Rattle.page_runs.specs.Black.{black_of}
 use Rattle.layout_geom.specs.declared.rect.Rect.{Rect}
 use Rattle.layout_geom.specs.Rectangles.{HasSides}
 use Rattle.components.specs.declared.kept.Kept.{Kept}
+use Rattle.components.specs.declared.kept.TheConstants.{MAX_KEPT}
 use Rattle.components.specs.Kept.{IsKeptOf, IsKeptList, IsKeptCount}
 use Rattle.whitespace_cover.specs.Cover.{IsCover}
 use Rattle.gutters.specs.Gutters.{gutters_of}
@@ -48,12 +49,12 @@ pub record IsLayout (plan : Plan) (page : Page) (layout : Layout) : Type 0 where
 pub record HasFewComponents (page : Page) : Type 0 where
   pub boxes : List Rect
   pub are_kept : IsKeptList page boxes
-  pub few : length boxes ≤ 60000
+  pub few : length boxes ≤ MAX_KEPT
 
 -- so many components of the page are kept, and that is more than 60,000
 pub record HasTooMany (page : Page) (count : ℕ) : Type 0 where
   pub counted : IsKeptCount page count
-  pub many : 60000 < count
+  pub many : MAX_KEPT < count
 
 -- why a page has no layout
 abbrev pub IsCoreFault : Page → CoreFault → Type 0

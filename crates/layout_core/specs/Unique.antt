@@ -1,6 +1,6 @@
 -- What is defined of a page and of a run is one thing, so that two runs on one input write the same.
 use Rattle.std.specs.Prelude.{◌≡◌, ℕ, List, Some}
-use Rattle.pbm_reader.specs.Page.{Page}
+use Rattle.packed_rows.specs.Page.{Page, HasPicture}
 use Rattle.pbm_reader.specs.Spelling.{Spells}
 use Rattle.command_words.specs.declared.plan.Plan.{Plan}
 use Rattle.command_words.specs.Plans.{HasPlan}
@@ -26,10 +26,12 @@ OutputIsUnique =
     → run.out_before.written ≡ other.out_before.written → WritesOutput run → WritesOutput other
     → run.out_after.written ≡ other.out_after.written
 
--- Two such runs write the same for two inputs that spell one page, however each spells it.
-abbrev pub PageDecidesOutput : Type 0
-PageDecidesOutput =
+-- Equal pictures, equal documents: two such runs write the same for two inputs that spell pages of one size with the same black places,
+-- however each spells it.
+abbrev pub PictureDecidesOutput : Type 0
+PictureDecidesOutput =
     (run other : RunAccount) (p q : Plan) → HasPlan run.program run.words p → HasPlan other.program other.words q → AskTheSame p q
-    → (input respelled : List ℕ) (page : Page) → run.source_before.left ≡ Some input → other.source_before.left ≡ Some respelled
-    → Spells input page → Spells respelled page → run.out_before.written ≡ other.out_before.written → WritesOutput run → WritesOutput other
+    → (input respelled : List ℕ) (page picture : Page) → run.source_before.left ≡ Some input → other.source_before.left ≡ Some respelled
+    → Spells input page → Spells respelled picture → HasPicture page picture
+    → run.out_before.written ≡ other.out_before.written → WritesOutput run → WritesOutput other
     → run.out_after.written ≡ other.out_after.written

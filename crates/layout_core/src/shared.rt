@@ -11,7 +11,7 @@ use box_search::FromFn;
 use command_words::Program;
 use layout_limits::OutOfMemory;
 use layout_outside::{Sink, Source};
-use lease_workers::{Gate, Workers};
+use lease_workers::{Gate, MAX_WORKERS, Workers};
 use line_search::Grid;
 use std::alloc::Global;
 use std::sync::Wait;
@@ -43,13 +43,13 @@ pub fn layout_shared<R: Threads + Wait + Sync, S: Source, K: Sink, E: Sink, G: G
     let count = u32::from(plan.workers);
     let whites = FromFn {
         search: |white: &White| -> Result<u64, OutOfMemory>
-            requires { (1 ≤ count) × (count ≤ 64) }
+            requires { (1 ≤ count) × (count ≤ MAX_WORKERS) }
             ensures { IfOk result (IsGreatestKey (IsWhiteKey (white_numbers white.now))) }
         { Workers::new(count, gate).best(alloc, rt, white) },
     };
     let lines = FromFn {
         search: |grid: &Grid| -> Result<u64, OutOfMemory>
-            requires { (1 ≤ count) × (count ≤ 64) }
+            requires { (1 ≤ count) × (count ≤ MAX_WORKERS) }
             ensures { IfOk result (IsGreatestKey (IsGridKey (grid_numbers grid.now))) }
         { Workers::new(count, gate).best(alloc, rt, grid) },
     };

@@ -1,4 +1,3 @@
-use Rattle.std.proofs.Common.{refl}
 use Rattle.layout_core.proofs.Unique.{Laws, one_layout, one_output, same_input, same_spelled}
 use Rattle.layout_core.proofs.law.output_is_unique.Goals as goal
 
@@ -18,7 +17,8 @@ returns c =
       one_output = λ run other p q has has_too same input told told_too.
           one_output laws one_page one_plan run other p q has has_too same
           (same_input laws one_page one_plan run other p q has has_too same input told told_too);
-      one_document = λ run other p q has has_too same input respelled page told told_too spells spells_too.
+      one_document = λ run other p q has has_too same input respelled page picture told told_too spells spells_too pictured.
           one_output laws one_page one_plan run other p q has has_too same
-          (same_spelled laws one_page one_plan run other p q has has_too same input respelled page page told told_too spells spells_too refl);
+          (same_spelled laws one_page one_plan run other p q has has_too same input respelled page picture told told_too spells spells_too
+          (c.equal_pictures_are_one_page.ensures.one_page input respelled page picture spells spells_too pictured));
     }
