@@ -1,5 +1,6 @@
 //! A sink over memory, with room made before, which fails at the calls that it is told to fail at.
-ghost use Rattle.std.specs.Prelude.{◌≡◌, ℕ, ◌+◌, ◌-◌, ◌<◌, ◌≤◌, ◌↔◌, ◌⊎◌, List, [], ◌++◌, length, take, min, Some, IsOk, IfOk, OnOk, IsErr, OnErr, Contains, vec_len, vec_capacity};
+ghost use Rattle.std.specs.Prelude.{◌≡◌, ℕ, ◌+◌, ◌-◌, ◌<◌, ◌≤◌, ◌↔◌, ◌⊎◌, List, [], ◌++◌};
+ghost use Rattle.std.specs.Prelude.{length, take, min, Some, IsOk, IfOk, OnOk, IsErr, OnErr, Contains, vec_len, vec_capacity};
 ghost use Rattle.layout_outside.specs.Causes.{next_count};
 ghost use Rattle.layout_outside.specs.Views.{IsWrite};
 

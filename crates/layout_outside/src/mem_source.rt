@@ -1,5 +1,6 @@
 //! A source over memory, which fails at the calls that it is told to fail at.
-ghost use Rattle.std.specs.Prelude.{◌≡◌, ℕ, ◌+◌, ◌-◌, ◌<◌, ◌≤◌, ◌↔◌, [], ◌++◌, length, take, drop, min, Some, IfOk, OnOk, IsErr, OnErr, false, Contains, vec_len};
+ghost use Rattle.std.specs.Prelude.{◌≡◌, ℕ, ◌+◌, ◌-◌, ◌<◌, ◌≤◌, ◌↔◌, [], ◌++◌, length};
+ghost use Rattle.std.specs.Prelude.{take, drop, min, Some, IfOk, OnOk, IsErr, OnErr, false, Contains, vec_len};
 ghost use Rattle.layout_outside.specs.Causes.{next_count};
 ghost use Rattle.layout_outside.specs.Views.{IsRead};
 

@@ -9,7 +9,8 @@ use Rattle.pbm_reader.specs.Page.{IsPageSize}
 use Rattle.pbm_reader.specs.declared.form.Form.{Form}
 use Rattle.pbm_reader.specs.declared.form.Form.TheVariants.{Plain, Raw}
 use Rattle.pbm_reader.specs.declared.state.HeaderState.{HeaderState}
-use Rattle.pbm_reader.specs.declared.state.HeaderState.TheVariants.{Magic, Kind, Named, WidthGap, WidthComment, Width, HeightGap, HeightComment, Height, Whole}
+use Rattle.pbm_reader.specs.declared.state.HeaderState.TheVariants.{Magic, Kind, Named, WidthGap, WidthComment}
+use Rattle.pbm_reader.specs.declared.state.HeaderState.TheVariants.{Width, HeightGap, HeightComment, Height, Whole}
 use Rattle.pbm_reader.specs.declared.fault.PageFault.{PageFault}
 use Rattle.pbm_reader.specs.declared.fault.PageFault.TheVariants as faults
 use Rattle.pbm_reader.specs.Spelling.{is_white, is_line_end, is_digit, IsHeader}
@@ -40,11 +41,13 @@ next_state Kind byte = option_map (λ form. Named form) (form_of byte)
 next_state (Named form) byte = in_gap (WidthGap form) (WidthComment form) None byte
 next_state (WidthGap form) byte = in_gap (WidthGap form) (WidthComment form) (option_map (λ w. Width form w) (with_digit 0 byte)) byte
 next_state (WidthComment form) byte = in_comment (WidthGap form) (WidthComment form) byte
-next_state (Width form width) byte = in_gap (HeightGap form width) (HeightComment form width) (option_map (λ w. Width form w) (with_digit width byte)) byte
+next_state (Width form width) byte =
+    in_gap (HeightGap form width) (HeightComment form width) (option_map (λ w. Width form w) (with_digit width byte)) byte
 next_state (HeightGap form width) byte =
     in_gap (HeightGap form width) (HeightComment form width) (option_map (λ h. Height form width h) (with_digit 0 byte)) byte
 next_state (HeightComment form width) byte = in_comment (HeightGap form width) (HeightComment form width) byte
-next_state (Height form width height) byte = if is_white byte then Some (Whole form width height) else option_map (λ h. Height form width h) (with_digit height byte)
+next_state (Height form width height) byte = if is_white byte then Some (Whole form width height)
+    else option_map (λ h. Height form width h) (with_digit height byte)
 next_state (Whole form width height) byte = None
 
 -- the fault where no header has this byte here

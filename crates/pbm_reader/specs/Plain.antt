@@ -1,5 +1,6 @@
 -- Reading the pixels of a plain raster.
-use Rattle.std.specs.Prelude.{◌≡◌, ◌<◌, ◌≤◌, ℕ, ◌+◌, Bool, true, false, not, ◌==◌, List, [], ◌∷◌, ◌++◌, length, slice_index, Option, ⊤, if◌then◌else◌}
+use Rattle.std.specs.Prelude.{◌≡◌, ◌<◌, ◌≤◌, ℕ, ◌+◌, Bool, true, false, not}
+use Rattle.std.specs.Prelude.{◌==◌, List, [], ◌∷◌, ◌++◌, length, slice_index, Option, ⊤, if◌then◌else◌}
 use Rattle.pbm_reader.specs.declared.limits.TheConstants.{MAX_INPUT}
 use Rattle.pbm_reader.specs.declared.fault.PageFault.{PageFault}
 use Rattle.pbm_reader.specs.declared.fault.PageFault.TheVariants as faults
@@ -14,7 +15,8 @@ use Rattle.layout_outside.specs.Views.{SourceView}
 abbrev pub pixel_step : Bool → ℕ → PixelStep
 pixel_step true byte = Blank (not (is_line_end byte))
 pixel_step false byte =
-    if byte == 48 then Found false else if byte == 49 then Found true else if byte == 35 then Blank true else if is_white byte then Blank false else Wrong
+    if byte == 48 then Found false else if byte == 49 then Found true else if byte == 35 then Blank true
+    else if is_white byte then Blank false else Wrong
 
 -- white bytes and comments, the last of which has only begun where this says so
 abbrev pub IsBlankPart : Bool → List ℕ → Type 0
@@ -46,12 +48,14 @@ pub record PixelsBegun (count : ℕ) (in_comment : Bool) (bytes : List ℕ) : Ty
 -- why fewer pixels than this were read, from this offset on
 abbrev pub PixelsFail : SourceView → SourceView → ℕ → ℕ → PageFault → Type 0
 PixelsFail old new start count (faults.Truncated end) =
-    (in_comment : Bool) × (bytes : List ℕ) × TookAll old new bytes × PixelsBegun count in_comment bytes × (end ≡ start + length bytes) × (end ≤ MAX_INPUT)
+    (in_comment : Bool) × (bytes : List ℕ) × TookAll old new bytes × PixelsBegun count in_comment bytes × (end ≡ start + length bytes)
+    × (end ≤ MAX_INPUT)
 PixelsFail old new start count (faults.Pixel at) =
     (bytes : List ℕ) × (byte : ℕ) × Took old new (bytes ++ byte ∷ []) × PixelsBegun count false bytes × (pixel_step false byte ≡ Wrong)
     × (at ≡ start + length bytes) × (at < MAX_INPUT)
 PixelsFail old new start count faults.InputTooLong =
-    (in_comment : Bool) × (bytes : List ℕ) × (byte : ℕ) × Took old new (bytes ++ byte ∷ []) × PixelsBegun count in_comment bytes × (start + length bytes ≡ MAX_INPUT)
+    (in_comment : Bool) × (bytes : List ℕ) × (byte : ℕ) × Took old new (bytes ++ byte ∷ []) × PixelsBegun count in_comment bytes
+    × (start + length bytes ≡ MAX_INPUT)
 PixelsFail old new start count faults.ReadFault =
     (in_comment : Bool) × (bytes : List ℕ) × Took old new bytes × PixelsBegun count in_comment bytes × (start + length bytes ≤ MAX_INPUT)
 PixelsFail old new start count faults.Memory = (bytes : List ℕ) × Took old new bytes
@@ -70,7 +74,8 @@ pub record TookRow (old new : SourceView) (start end width : ℕ) (bits : List �
   pub packed : ArePacked width pixels bits
 
 -- a row of pixels was taken, and the sink was given it
-pub record TakesPixels {Sink : Type 0} (given : Sink → List ℕ → Sink → Type 0) (old new : SourceView) (start end width : ℕ) (before after : Sink) : Type 0 where
+pub record TakesPixels {Sink : Type 0} (given : Sink → List ℕ → Sink → Type 0) (old new : SourceView) (start end width : ℕ)
+    (before after : Sink) : Type 0 where
   pub bits : List ℕ
   pub row : TookRow old new start end width bits
   pub gives : given before bits after

@@ -13,7 +13,8 @@ use Rattle.layout_outside.specs.Taken.{Took, TookAll}
 use Rattle.layout_outside.specs.Views.{SourceView}
 
 -- a row was taken from the input, and the sink was given it with its padding bits cleared
-pub record TakesRow {Sink : Type 0} (given : Sink → List ℕ → Sink → Type 0) (width : ℕ) (old new : SourceView) (before after : Sink) : Type 0 where
+pub record TakesRow {Sink : Type 0} (given : Sink → List ℕ → Sink → Type 0) (width : ℕ) (old new : SourceView)
+    (before after : Sink) : Type 0 where
   pub bits : List ℕ
   pub took : Took old new bits
   pub len : length bits ≡ row_len width
@@ -29,7 +30,8 @@ BytesFail old new at len faults.Memory = (part : List ℕ) × Took old new part
 BytesFail old new at len fault = ⊥
 
 -- the raster of a page was taken, up to this offset, and the sink was given its rows
-pub record TookRaster {Sink : Type 0} (given : Sink → List ℕ → Sink → Type 0) (old new : SourceView) (form : Form) (width height start end : ℕ) (before after : Sink) : Type 0 where
+pub record TookRaster {Sink : Type 0} (given : Sink → List ℕ → Sink → Type 0) (old new : SourceView)
+    (form : Form) (width height start end : ℕ) (before after : Sink) : Type 0 where
   pub raster : List ℕ
   pub page : Page
   pub took : Took old new raster
@@ -48,7 +50,8 @@ RasterFails old new form width height start (faults.Pixel at) =
     (part : List ℕ) × (byte : ℕ) × Took old new (part ++ byte ∷ []) × (form ≡ Plain) × IsFrontOf (IsRaster form width height) part
     × ((rest : List ℕ) → IsRaster form width height (part ++ byte ∷ rest) → ⊥) × (at ≡ start + length part) × (at < MAX_INPUT)
 RasterFails old new form width height start faults.InputTooLong =
-    (part : List ℕ) × (byte : ℕ) × Took old new (part ++ byte ∷ []) × IsFrontOf (IsRaster form width height) part × (start + length part ≡ MAX_INPUT)
+    (part : List ℕ) × (byte : ℕ) × Took old new (part ++ byte ∷ []) × IsFrontOf (IsRaster form width height) part
+    × (start + length part ≡ MAX_INPUT)
 RasterFails old new form width height start faults.ReadFault =
     (part : List ℕ) × Took old new part × IsFrontOf (IsRaster form width height) part × (start + length part ≤ MAX_INPUT)
 RasterFails old new form width height start faults.Memory = ⊤

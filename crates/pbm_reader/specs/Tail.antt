@@ -23,7 +23,8 @@ RestFails old new start fault = ⊥
 -- the bytes behind a raster, from this offset on, go past the limit, and none within it is refused
 abbrev pub GoesPast : Form → ℕ → List ℕ → Type 0
 GoesPast form start tail =
-    (front : List ℕ) × (behind : List ℕ) × (tail ≡ front ++ behind) × MayFollow form front × (start + length front ≡ MAX_INPUT) × (0 < length behind)
+    (front : List ℕ) × (behind : List ℕ) × (tail ≡ front ++ behind) × MayFollow form front × (start + length front ≡ MAX_INPUT)
+    × (0 < length behind)
 
 -- what may follow a raster was taken, and it was all that was left
 pub record TookTail (old new : SourceView) (form : Form) (start : ℕ) : Type 0 where
@@ -37,5 +38,6 @@ abbrev pub TailFails : SourceView → SourceView → Form → ℕ → PageFault 
 TailFails old new form start (faults.Trailing at) =
     (byte : ℕ) × Took old new (byte ∷ []) × (MayFollow form (byte ∷ []) → ⊥) × (at ≡ start) × (at < MAX_INPUT)
 TailFails old new form start faults.InputTooLong = (tail : List ℕ) × Took old new tail × GoesPast form start tail
-TailFails old new form start faults.ReadFault = (tail : List ℕ) × Took old new tail × MayFollow form tail × (start + length tail ≤ MAX_INPUT)
+TailFails old new form start faults.ReadFault = (tail : List ℕ) × Took old new tail × MayFollow form tail
+    × (start + length tail ≤ MAX_INPUT)
 TailFails old new form start fault = ⊥

@@ -1,5 +1,6 @@
 //! The bytes of the input one after the other, in whatever pieces the source hands them out.
-ghost use Rattle.std.specs.Prelude.{◌≡◌, ◌<◌, ◌≤◌, ◌-◌, ℕ, List, [], ◌∷◌, ◌++◌, length, take, drop, min, IfSome, IfNone, IfOk, OnOk, OnErr, IsTrue, ◌↔◌, vec_len};
+ghost use Rattle.std.specs.Prelude.{◌≡◌, ◌<◌, ◌≤◌, ◌-◌, ℕ, List, [], ◌∷◌, ◌++◌, length};
+ghost use Rattle.std.specs.Prelude.{take, drop, min, IfSome, IfNone, IfOk, OnOk, OnErr, IsTrue, ◌↔◌, vec_len};
 ghost use Rattle.layout_outside.specs.Taken.{HasEnded, HasSourceCause, Took, TookAll, TookPart};
 ghost use Rattle.pbm_reader.specs.Feed.{FeedView, with_unread};
 
