@@ -1,19 +1,17 @@
-//! A page that was read is held.
+//! A page that was given its rows is held.
 use crate::{RunPage, given_page_is_held};
-use layout_outside::MemSource;
-use pbm_reader::read_page;
+use pbm_reader::RowSink;
 use std::test::Fail;
 
 #[test]
-fn the_black_pixels_of_a_page_that_was_read(rt: HostRuntime) -> Result<(), Fail> {
-    let bytes = b"P4\n10 2\n\x81\x7F\x00\xC0".to_vec(rt.alloc())?;
-    let fails = [].to_vec(rt.alloc())?;
-    let mut source = MemSource::new(bytes, 3, fails);
+fn the_black_pixels_of_a_page_that_was_given(rt: HostRuntime) -> Result<(), Fail> {
     let mut page = RunPage::empty(rt.alloc());
     assert!(rt; !page.is_whole());
-    let _size = read_page(rt.alloc(), &mut source, &mut page)?;
+    page.begin(16, 2)?;
+    page.push_row(&[0x81, 0x40])?;
+    page.push_row(&[0x00, 0xC0])?;
     assert!(rt; page.is_whole());
-    assert!(rt; page.width() == 10 && page.height() == 2);
+    assert!(rt; page.width() == 16 && page.height() == 2);
     assert_eq!(rt; page.black(), 5);
     for (x, y, black) in [
         (0, 0, true),
