@@ -9,7 +9,7 @@ pub settle-requires-clause-fits : goal.settle-requires-clause-fits
 settle-requires-clause-fits g c κs = subst (λ (xs : List (Node Rect)). All (FitsWhite (white_numbers c.in_ok-white.white)) xs) (sym c.deref.ensures.value) c.in_ok-parts.ensures.fits
 
 pub settle-requires-3-clause-fits : goal.settle-requires-3-clause-fits
-settle-requires-3-clause-fits g c κs = subst (λ (xs : List (Node Rect)). All (FitsWhite (numbers_of c.in_ok-white.white)) xs) (sym c.deref-3.ensures.value) c.in_ok-parts.ensures.fits
+settle-requires-3-clause-fits g c κs = subst (λ (xs : List (Node Rect)). All (FitsWhite (white_numbers c.in_ok-white.white)) xs) (sym c.deref-3.ensures.value) c.in_ok-parts.ensures.fits
 
 pub settle-requires-2-clause-fits : goal.settle-requires-2-clause-fits
 settle-requires-2-clause-fits g c κs = subst (λ (xs : List (Node Rect)). All (FitsWhite (white_numbers c.in_ok-white.white)) xs) (sym c.deref-2.ensures.value) c.in_ok-parts.ensures.fits
