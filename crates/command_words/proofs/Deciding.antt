@@ -6,7 +6,8 @@ use Rattle.command_words.specs.Plans.{AreApart, HasNoPlan, HasPlan, usual_worker
 use Rattle.command_words.specs.Givens.{HasValues, text_of}
 use Rattle.command_words.specs.declared.options.OptionTexts.{OptionTexts}
 use Rattle.command_words.specs.declared.plan.Plan.{Plan}
-use Rattle.command_words.specs.declared.plan.TheConstants.{MAX_RECTS, MAX_WORKERS, USUAL_RECTS}
+use Rattle.layout_limits.specs.declared.TheConstants.{MAX_RECTS, MAX_WORKERS}
+use Rattle.command_words.specs.declared.plan.TheConstants.{USUAL_RECTS}
 use Rattle.command_words.specs.declared.plan.Program.{Program}
 use Rattle.command_words.proofs.Known.{one_items}
 

@@ -4,7 +4,8 @@ use Rattle.std.specs.List.{All, Contains}
 use Rattle.std.specs.Str.{bytes_eq}
 use Rattle.command_words.specs.Items.{Text, Item, SpellsItems}
 use Rattle.command_words.specs.Values.{IsNumberOf, IsImageOf, IsSeedOf}
-use Rattle.command_words.specs.declared.plan.TheConstants.{MAX_RECTS, MAX_WORKERS, USUAL_RECTS, USUAL_WORKERS}
+use Rattle.layout_limits.specs.declared.TheConstants.{MAX_RECTS, MAX_WORKERS}
+use Rattle.command_words.specs.declared.plan.TheConstants.{USUAL_RECTS, USUAL_WORKERS}
 use Rattle.command_words.specs.declared.plan.Program.{Program}
 use Rattle.command_words.specs.declared.plan.Program.TheVariants.{Alone, Shared}
 use Rattle.command_words.specs.declared.plan.Plan.{Plan}

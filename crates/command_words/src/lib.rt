@@ -12,7 +12,6 @@ mod words;
 
 pub use law::words_have_one_plan;
 pub use plan::{
-    MAX_DIGITS, MAX_NAME_BYTES, MAX_RECTS, MAX_WORKERS, Plan, Program, USUAL_RECTS, USUAL_WORKERS,
-    WordFault,
+    MAX_DIGITS, MAX_NAME_BYTES, Plan, Program, USUAL_RECTS, USUAL_WORKERS, WordFault,
 };
 pub use words::words_of;

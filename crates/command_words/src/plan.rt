@@ -1,15 +1,9 @@
 //! What a command line asks for, and how it can fail to ask.
 use layout_geom::Name;
-use layout_limits::OutOfMemory;
-
-/// The most white rectangles that can be asked for.
-pub const MAX_RECTS: u16 = 256;
+use layout_limits::{MAX_RECTS, MAX_WORKERS, OutOfMemory};
 
 /// How many white rectangles are searched for at most, where no word tells.
 pub const USUAL_RECTS: u16 = 32;
-
-/// The most threads that can be asked for.
-pub const MAX_WORKERS: u16 = 64;
 
 /// How many threads of `layout` search, where no word tells.
 pub const USUAL_WORKERS: u16 = 4;

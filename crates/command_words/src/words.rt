@@ -7,9 +7,8 @@ ghost use Rattle.command_words.specs.Values.{IsNameByte};
 use crate::image::image_or_none;
 use crate::number::{number_or, seed_or_none};
 use crate::options::read_options;
-use crate::plan::{
-    MAX_NAME_BYTES, MAX_RECTS, MAX_WORKERS, Plan, Program, USUAL_RECTS, USUAL_WORKERS, WordFault,
-};
+use crate::plan::{MAX_NAME_BYTES, Plan, Program, USUAL_RECTS, USUAL_WORKERS, WordFault};
+use layout_limits::{MAX_RECTS, MAX_WORKERS};
 use std::alloc::Global;
 
 /// How many threads search where no word tells.

@@ -11,7 +11,8 @@ use Rattle.layout_geom.specs.SameSides.{same_sides}
 
 -- the digits of a number are its own
 same_digits : (a b c d a' b' c' d' : ℕ) → b < 8192 → c < 8192 → d < 8192 → b' < 8192 → c' < 8192 → d' < 8192
-    → a * 549755813888 + b * 67108864 + c * 8192 + d ≡ a' * 549755813888 + b' * 67108864 + c' * 8192 + d' → (a ≡ a') × (b ≡ b') × (c ≡ c') × (d ≡ d')
+    → a * 549755813888 + b * 67108864 + c * 8192 + d ≡ a' * 549755813888 + b' * 67108864 + c' * 8192 + d'
+    → (a ≡ a') × (b ≡ b') × (c ≡ c') × (d ≡ d')
 same_digits a b c d a' b' c' d' hb hc hd hb' hc' hd' e = (omega arith, omega arith, omega arith, omega arith)
 
 -- a number's digits

@@ -7,4 +7,4 @@ mod gate;
 mod workers;
 
 pub use gate::{Gate, OpenGate};
-pub use workers::{MAX_WORKERS, Workers};
+pub use workers::Workers;

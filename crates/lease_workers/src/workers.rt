@@ -9,14 +9,11 @@ use crate::gate::Gate;
 use box_search::{Alone, Searcher, Space};
 use crossbeam_utils::sync::EventCount;
 use frontier_turn::{Pass, Shared, each_step_keeps_the_rule};
-use layout_limits::OutOfMemory;
+use layout_limits::{MAX_WORKERS, OutOfMemory};
 use std::alloc::Global;
 use std::marker::{Model, PhantomData};
 use std::sync::Wait;
 use std::thread::{Threads, join};
-
-/// The most workers of one search.
-pub const MAX_WORKERS: u32 = 64;
 
 /// A search by several workers on one frontier, each in a thread of its own, or one after the other where no thread can
 /// be made. Each worker passes a gate before each of its turns.
@@ -31,7 +28,7 @@ pub struct Workers<'g, R, G> {
 
 impl<'g, R, G> Model for Workers<'g, R, G> {
     ghost use Rattle.std.specs.Prelude.{ℕ, ◌≤◌};
-    ghost use Rattle.lease_workers.specs.declared.workers.TheConstants.{MAX_WORKERS};
+    ghost use Rattle.layout_limits.specs.declared.TheConstants.{MAX_WORKERS};
 
     ghost Value = { ℕ };
 

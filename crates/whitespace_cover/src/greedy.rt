@@ -6,11 +6,8 @@ use crate::bars::bars;
 use crate::white::White;
 use box_search::Searcher;
 use layout_geom::{Rect, Rects};
-use layout_limits::OutOfMemory;
+use layout_limits::{MAX_RECTS, OutOfMemory};
 use std::alloc::Global;
-
-/// The most rectangles of a cover.
-pub const MAX_RECTS: u32 = 256;
 
 /// The greedy cover of the white space of a page, after Breuel (2002): the greatest white rectangle
 /// clear of the boxes, then the greatest one clear of the boxes and of the first, and so on, until

@@ -11,5 +11,5 @@ mod region;
 mod tests;
 mod white;
 
-pub use greedy::{MAX_RECTS, cover, cover_is_unique};
+pub use greedy::{cover, cover_is_unique};
 pub use white::White;

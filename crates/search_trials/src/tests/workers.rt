@@ -1,13 +1,13 @@
 //! Searches with several numbers of workers, workers that wait for one another, and memory that is refused.
 ghost use Rattle.std.specs.Prelude.{◌≤◌, IfOk};
 ghost use Rattle.box_search.specs.Search.{IsGreatestKey};
-ghost use Rattle.lease_workers.specs.declared.workers.TheConstants.{MAX_WORKERS};
+ghost use Rattle.layout_limits.specs.declared.TheConstants.{MAX_WORKERS};
 
 use super::{BELOW, RIGHT, chance_numbers};
 use crate::{Meeting, RefusesOnce, Table, Watched};
 use box_search::{Alone, Searcher, Space};
-use layout_limits::OutOfMemory;
-use lease_workers::{Gate, MAX_WORKERS, OpenGate, Workers};
+use layout_limits::{MAX_WORKERS, OutOfMemory};
+use lease_workers::{Gate, OpenGate, Workers};
 use std::alloc::Global;
 use std::sync::Wait;
 use std::test::Fail;
@@ -39,7 +39,7 @@ fn worker_counts(rt: HostRuntime) -> Result<(), Fail> {
         assert_eq!(rt; best_with(&rt, alloc, 2, &OpenGate, &keys)?, greatest);
         assert_eq!(rt; best_with(&rt, alloc, 7, &OpenGate, &keys)?, greatest);
         assert_eq!(rt;
-            best_with(&rt, alloc, MAX_WORKERS, &OpenGate, &keys)?,
+            best_with(&rt, alloc, u32::from(MAX_WORKERS), &OpenGate, &keys)?,
             greatest
         );
     }

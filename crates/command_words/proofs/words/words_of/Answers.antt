@@ -2,7 +2,8 @@ use Rattle.std.proofs.Common.{◌∙◌, ℕ, codes, subst, sym, true≢false}
 use Rattle.clap.proofs.TakesLemmas.{passed_up}
 use Rattle.command_words.specs.Values.{IsImageOf, IsNumberOf, IsSeedOf}
 use Rattle.command_words.specs.Plans.{usual_workers}
-use Rattle.command_words.specs.declared.plan.TheConstants.{MAX_RECTS, MAX_WORKERS, USUAL_RECTS}
+use Rattle.layout_limits.specs.declared.TheConstants.{MAX_RECTS, MAX_WORKERS}
+use Rattle.command_words.specs.declared.plan.TheConstants.{USUAL_RECTS}
 use Rattle.command_words.specs.Givens.{text_of}
 use Rattle.command_words.proofs.Deciding.{no_plan, not_apart}
 use Rattle.command_words.proofs.words.words_of.Goals as goal
