@@ -12,8 +12,8 @@ mod tests;
 
 pub use key::{line_key, point_of};
 pub use limits::{
-    LEAST_OFFSET, LEAST_SLOPE, MAX_COLUMNS, MAX_GUTTERS, MAX_OFFSET, MAX_SCORE, MAX_SLOPE,
-    MAX_WEIGHT, OFFSET_MARGIN,
+    LEAST_OFFSET, LEAST_SLOPE, MAX_COLUMNS, MAX_DEPTH, MAX_GUTTERS, MAX_OFFSET, MAX_SCORE,
+    MAX_SLOPE, MAX_WEIGHT, OFFSET_MARGIN,
 };
 pub use point::{column, crosses, height_at, middle, weight, weight_at};
 pub use score::{Score, greatest, score_at};

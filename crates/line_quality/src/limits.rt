@@ -16,6 +16,9 @@ pub const LEAST_OFFSET: i16 = -(OFFSET_MARGIN as i16);
 /// The greatest offset of a line of any page, in rows from the top of the page.
 pub const MAX_OFFSET: i16 = MAX_SIDE as i16 + OFFSET_MARGIN as i16;
 
+/// The greatest depth of a line of any page, in rows: how far the line of its descenders lies below its baseline.
+pub const MAX_DEPTH: u8 = 63;
+
 /// The most gutters of a page.
 pub const MAX_GUTTERS: usize = 256;
 
