@@ -1,5 +1,5 @@
 -- Heights as the code computes them, in 32 bits.
-use Rattle.std.proofs.Common.{◌≡◌, ℕ, ◌+◌, ◌*◌, ◌^◌, ◌<◌, ◌≤◌, ℤ, pos, negsuc, ◌+ℤ◌, ◌*ℤ◌, ◌≤ℤ◌, FitsSigned, to_z, of_z, w8, w16, w32, arith, ◌∙◌, refl, unsigned_abs}
+use Rattle.std.proofs.Common.{◌≡◌, ℕ, ◌+◌, ◌*◌, ◌^◌, ◌<◌, ◌≤◌, ℤ, pos, negsuc, ◌+ℤ◌, ◌-ℤ◌, ◌*ℤ◌, ◌≤ℤ◌, FitsSigned, to_z, of_z, w8, w16, w32, arith, ◌∙◌, refl, unsigned_abs}
 use Rattle.std.proofs.Math.Nat.{mul-le-mul_left}
 use Rattle.std.proofs.lemmas.Int.{ints, to_z-of_z, fits_signed_mul}
 use Rattle.std.specs.Int.{int_div_euclid}
@@ -45,3 +45,16 @@ height_near s b x slope offset within = (omega (arith, ints, rise_small s x slop
 pub height_is : (s b : ℤ) (x : ℕ) (q : ℤ) → FitsSigned w8 s → FitsSigned w16 b → x < 2 ^ 16 → q ≡ rise s x → to_z w32 (of_z w32 (to_z w32 (of_z w32 (to_z w16 (of_z w16 b))) +ℤ to_z w32 (of_z w32 q))) ≡ height_at s b x
 height_is s b x q slope offset within is =
     rw (is, back_16 b offset) (omega (arith, ints, rise_small s x slope within))
+
+-- how far a foot is from a height, as the code computes it
+pub gap_is : (h held : ℤ) (y foot : ℕ) → held ≡ h → foot ≡ y → IsNearLine held → foot < 2 ^ 16
+    → unsigned_abs (to_z w32 (of_z w32 held) -ℤ to_z w32 foot) ≡ unsigned_abs (h -ℤ pos y)
+gap_is h held y foot same same_foot near within =
+    omega (arith, ints, near.0, near.1, parts (h -ℤ pos y), parts (to_z w32 (of_z w32 held) -ℤ to_z w32 foot))
+
+-- and from so many rows below the height
+pub descent_gap_is : (h held : ℤ) (y foot depth : ℕ) → held ≡ h → foot ≡ y → depth < 2 ^ 8 → IsNearLine held → foot < 2 ^ 16
+    → unsigned_abs (to_z w32 (of_z w32 (to_z w32 (of_z w32 held) +ℤ to_z w32 depth)) -ℤ to_z w32 foot) ≡ unsigned_abs ((h +ℤ pos depth) -ℤ pos y)
+descent_gap_is h held y foot depth same same_foot shallow near within =
+    let below : to_z w32 (of_z w32 (to_z w32 (of_z w32 held) +ℤ to_z w32 depth)) ≡ held +ℤ pos depth = omega (arith, ints, near.0, near.1) in
+    rw (below, same, same_foot, wide y (omega (arith, within, same_foot))) refl

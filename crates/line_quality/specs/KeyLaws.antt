@@ -1,10 +1,10 @@
 -- What holds of the keys of all lines of the grid.
 use Rattle.std.proofs.Common.{◌≡◌, ℕ, ◌+◌, ◌-◌, ◌*◌, ◌^◌, ◌<◌, ◌≤◌, ℤ, pos, negsuc, ◌+ℤ◌, ◌<ℤ◌}
-use Rattle.std.proofs.Common.{unsigned_abs, arith, ◌⊎◌, ⊎_elim, inl, inr, ap}
+use Rattle.std.proofs.Common.{unsigned_abs, arith, ◌⊎◌, ⊎_elim, inl, inr, ap, sym}
 use Rattle.std.proofs.lemmas.Int.{ints}
-use Rattle.line_quality.specs.declared.limits.TheConstants.{OFFSET_MARGIN, MAX_RANK}
+use Rattle.line_quality.specs.declared.limits.TheConstants.{OFFSET_MARGIN, MAX_DEPTH, MAX_RANK}
 use Rattle.line_quality.specs.Points.{IsSlope, IsOffset}
-use Rattle.line_quality.specs.Keys.{line_key, rank, IsBeaten}
+use Rattle.line_quality.specs.Keys.{line_key, rank, Scored, IsBeaten, IsOfGrid, key_of}
 use borrow.Author.Differences.{up, down}
 
 -- how many rows the greatest offset is below the least
@@ -67,53 +67,83 @@ lower_place b b' h h' less = omega (
   h'.high,
 )
 
-digits : (s r b s' r' b' : ℕ) → r ≤ MAX_RANK → r' ≤ MAX_RANK → b ≤ MAX_PLACE → b' ≤ MAX_PLACE
-    → s * 2 ^ 23 + (MAX_RANK - r) * 2 ^ 16 + (65535 - b) ≡ s' * 2 ^ 23 + (MAX_RANK - r') * 2 ^ 16 + (65535 - b') → (s ≡ s') × (r ≡ r')
-    × (b ≡ b')
-digits s r b s' r' b' hr hr' hb hb' e = (omega arith, omega arith, omega arith)
+-- three digits within their limits
+record AreDigits (d r b : ℕ) : Type 0 where
+  deep : d ≤ MAX_DEPTH
+  steep : r ≤ MAX_RANK
+  low : b ≤ MAX_PLACE
 
-pub record SamePoint (score score' : ℕ) (slope slope' offset offset' : ℤ) : Type 0 where
-  pub scores : score ≡ score'
-  pub slopes : slope ≡ slope'
-  pub offsets : offset ≡ offset'
+digits_of : (p : Scored) → IsOfGrid p → AreDigits p.depth (rank p.slope) (unsigned_abs (p.offset +ℤ pos OFFSET_MARGIN))
+digits_of p h = record { deep = h.depth_in; steep = low_rank p.slope h.slope_in; low = place_low p.offset h.offset_in }
+
+digits : (s d r b s' d' r' b' : ℕ) → AreDigits d r b → AreDigits d' r' b'
+    → s * 2 ^ 29 + (MAX_DEPTH - d) * 2 ^ 23 + (MAX_RANK - r) * 2 ^ 16 + (65535 - b)
+    ≡ s' * 2 ^ 29 + (MAX_DEPTH - d') * 2 ^ 23 + (MAX_RANK - r') * 2 ^ 16 + (65535 - b')
+    → (s ≡ s') × (d ≡ d') × (r ≡ r') × (b ≡ b')
+digits s d r b s' d' r' b' h h' e =
+    let scores : s ≡ s' = omega (arith, h.deep, h.steep, h.low, h'.deep, h'.steep, h'.low) in
+    let depths : d ≡ d' = omega (arith, scores, h.deep, h.steep, h.low, h'.deep, h'.steep, h'.low) in
+    let ranks : r ≡ r' = omega (arith, scores, depths, h.deep, h.steep, h.low, h'.deep, h'.steep, h'.low) in
+    (scores, depths, ranks, omega (arith, scores, depths, ranks, h.deep, h.low, h'.deep, h'.low))
+
+pub record SamePoint (p q : Scored) : Type 0 where
+  pub scores : p.score ≡ q.score
+  pub slopes : p.slope ≡ q.slope
+  pub offsets : p.offset ≡ q.offset
+  pub depths : p.depth ≡ q.depth
 
 -- no two lines have one key
-pub same_point : (score score' : ℕ) (slope slope' offset offset' : ℤ) → IsSlope slope → IsSlope slope' → IsOffset offset
-    → IsOffset offset' → line_key score slope offset ≡ line_key score' slope' offset' → SamePoint score score' slope slope' offset offset'
-same_point score score' slope slope' offset offset' hs hs' hb hb' e =
-    let same = digits score (rank slope) (unsigned_abs (offset +ℤ pos OFFSET_MARGIN)) score' (rank slope')
-    (unsigned_abs (offset' +ℤ pos OFFSET_MARGIN)) (low_rank slope hs) (low_rank slope' hs') (place_low offset hb)
-    (place_low offset' hb') e in
+pub same_point : (p q : Scored) → IsOfGrid p → IsOfGrid q → key_of p ≡ key_of q → SamePoint p q
+same_point p q hp hq e =
+    let same = digits p.score p.depth (rank p.slope) (unsigned_abs (p.offset +ℤ pos OFFSET_MARGIN))
+    q.score q.depth (rank q.slope) (unsigned_abs (q.offset +ℤ pos OFFSET_MARGIN)) (digits_of p hp) (digits_of q hq) e in
     record {
       scores = same.0;
-      slopes = same_rank slope slope' same.1;
-      offsets = same_place offset offset' hb hb' same.2;
+      slopes = same_rank p.slope q.slope same.2;
+      offsets = same_place p.offset q.offset hp.offset_in hq.offset_in same.3;
+      depths = same.1;
     }
 
-pub positive_line_key : (score : ℕ) (slope offset : ℤ) → IsOffset offset → 1 ≤ line_key score slope offset
-positive_line_key score slope offset hb = omega (arith, place_low offset hb)
+scored_by : ℕ → ℤ → ℤ → ℕ → Scored
+scored_by score slope offset depth = record { score = score; slope = slope; offset = offset; depth = depth }
 
-lesser : (s r b s' r' b' : ℕ) → r ≤ MAX_RANK → r' ≤ MAX_RANK → b ≤ MAX_PLACE → b' ≤ MAX_PLACE → (s < s') ⊎ ((s ≡ s') × (r' < r))
-    ⊎ ((s ≡ s') × (r ≡ r') × (b' < b))
-    → s * 2 ^ 23 + (MAX_RANK - r) * 2 ^ 16 + (65535 - b) < s' * 2 ^ 23 + (MAX_RANK - r') * 2 ^ 16 + (65535 - b')
-lesser s r b s' r' b' hr hr' hb hb' is =
-    ⊎_elim (λ low. omega arith) (λ rest. ⊎_elim (λ far. omega (arith, far.0, far.1))
-    (λ deep. omega (arith, deep.0, deep.1, deep.2)) rest) is
+-- so a key is that of one line
+pub same_scored : (p q : Scored) → IsOfGrid p → IsOfGrid q → key_of p ≡ key_of q → p ≡ q
+unfolding scored_by
+same_scored p q hp hq e =
+    let point = same_point p q hp hq e in
+    let same : scored_by p.score p.slope p.offset p.depth ≡ scored_by q.score q.slope q.offset q.depth =
+    cc (point.scores, point.slopes, point.offsets, point.depths) in
+    same
+
+pub positive_line_key : (score : ℕ) (slope offset : ℤ) (depth : ℕ) → IsOffset offset → 1 ≤ line_key score slope offset depth
+positive_line_key score slope offset depth hb = omega (arith, place_low offset hb)
+
+less_deep : (s d r b s' d' r' b' : ℕ) → AreDigits d r b → AreDigits d' r' b' → (s < s') ⊎ ((s ≡ s') × (d' < d))
+    ⊎ ((s ≡ s') × (d ≡ d') × (r' < r)) ⊎ ((s ≡ s') × (d ≡ d') × (r ≡ r') × (b' < b))
+    → s * 2 ^ 29 + (MAX_DEPTH - d) * 2 ^ 23 + (MAX_RANK - r) * 2 ^ 16 + (65535 - b)
+    < s' * 2 ^ 29 + (MAX_DEPTH - d') * 2 ^ 23 + (MAX_RANK - r') * 2 ^ 16 + (65535 - b')
+less_deep s d r b s' d' r' b' h h' is =
+    ⊎_elim (λ low. omega (arith, h.deep, h.steep, h.low, h'.deep, h'.steep, h'.low))
+    (λ rest. ⊎_elim (λ deep. omega (arith, deep.0, deep.1, h.deep, h.steep, h.low, h'.deep, h'.steep, h'.low))
+    (λ others. ⊎_elim (λ far. omega (arith, far.0, far.1, far.2, h.deep, h.steep, h.low, h'.steep, h'.low))
+    (λ lower. omega (arith, lower.0, lower.1, lower.2, lower.3, h.low, h'.low)) others) rest) is
 
 -- a line that is beaten has the lesser key
-pub beaten_key : (score score' : ℕ) (slope slope' offset offset' : ℤ) → IsSlope slope → IsSlope slope' → IsOffset offset
-    → IsOffset offset' → IsBeaten score slope offset score' slope' offset' → line_key score slope offset < line_key score' slope' offset'
-beaten_key score score' slope slope' offset offset' hs hs' hb hb' beaten =
-    lesser score (rank slope) (unsigned_abs (offset +ℤ pos OFFSET_MARGIN)) score' (rank slope')
-    (unsigned_abs (offset' +ℤ pos OFFSET_MARGIN)) (low_rank slope hs) (low_rank slope' hs') (place_low offset hb)
-    (place_low offset' hb')
+pub beaten_key : (p q : Scored) → IsOfGrid p → IsOfGrid q → IsBeaten p q → key_of p < key_of q
+beaten_key p q hp hq beaten =
+    less_deep p.score p.depth (rank p.slope) (unsigned_abs (p.offset +ℤ pos OFFSET_MARGIN))
+    q.score q.depth (rank q.slope) (unsigned_abs (q.offset +ℤ pos OFFSET_MARGIN)) (digits_of p hp) (digits_of q hq)
     (⊎_elim
     (λ low. inl low)
     (λ rest. ⊎_elim
-    (λ steeper. inr (inl (steeper.0, steeper_rank slope' slope steeper.1)))
+    (λ deep. inr (inl deep))
+    (λ more. ⊎_elim
+    (λ steeper. inr (inr (inl (steeper.0, steeper.1, steeper_rank q.slope p.slope steeper.2))))
     (λ others. ⊎_elim
-    (λ opposite. inr (inl (opposite.0, opposite_rank slope' slope opposite.1 opposite.2)))
-    (λ lower. inr (inr (lower.0, ap rank lower.1, lower_place offset' offset hb' hb lower.2)))
+    (λ opposite. inr (inr (inl (opposite.0, opposite.1, opposite_rank q.slope p.slope opposite.2 opposite.3))))
+    (λ lower. inr (inr (inr (lower.0, lower.1, ap rank lower.2, lower_place q.offset p.offset hq.offset_in hp.offset_in lower.3))))
     others)
+    more)
     rest)
     beaten)

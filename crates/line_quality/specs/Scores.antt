@@ -10,14 +10,14 @@ pub record IsGreatest (total : ℕ → ℕ) (score in_column : ℕ) : Type 0 whe
   pub greatest : (other : ℕ) → total other ≤ score
   pub least : (other : ℕ) → other < in_column → total other < score
 
-module _ (slope offset : ℤ) where
+module _ (slope offset : ℤ) (depth : ℕ) where
   abbrev pub weight_of : Option Rect → ℕ
-  weight_of (Some r) = weight slope offset r
+  weight_of (Some r) = weight slope offset depth r
   weight_of None = 0
 
   -- the box is in the column and weighs something
   abbrev pub is_of : List Rect → ℕ → Option Rect → Bool
-  is_of gutters in_column (Some r) = (column_of slope offset gutters (middle_of r) == in_column) && nat_lt 0 (weight slope offset r)
+  is_of gutters in_column (Some r) = (column_of slope offset gutters (middle_of r) == in_column) && nat_lt 0 (weight slope offset depth r)
   is_of gutters in_column None = false
 
   module _ (boxes gutters : List Rect) where

@@ -1,5 +1,6 @@
 //! How well a line of text fits the boxes of a page: its height, what each box weighs for it, its
-//! score among the columns that gutters make, and the key that orders the lines.
+//! score among the columns that gutters make, and the key that orders the lines. A line has a depth:
+//! letters stand on it, or with their descenders so many rows below it.
 #![tactic(auto)]
 
 mod crossed;

@@ -1,5 +1,5 @@
-//! A line of the grid, by its slope in thousandths and its offset: its height at a column, what a
-//! box weighs for it, and the gutters that it crosses.
+//! A line of the grid, by its slope in thousandths, its offset and its depth in rows: its height at a column,
+//! what a box weighs for it, and the gutters that it crosses.
 ghost use Rattle.std.specs.Prelude.{◌≡◌, ◌<◌, ◌≤◌, ◌↔◌, IsTrue, length, pos, negsuc, ◌≤ℤ◌};
 ghost use Rattle.line_quality.specs.Points;
 ghost use Rattle.line_quality.specs.Points.{IsRounded, Crosses};
@@ -39,13 +39,16 @@ pub fn weight_at(deviation: u32) -> u32
     }
 }
 
-/// What a box weighs for a line, by how far the line passes from its foot at its middle column.
-pub fn weight(slope: i8, offset: i16, rect: &Rect) -> u32
-    ensures value { result ≡ Points.weight slope offset rect.now }
+/// What a box weighs for a line, by how far its foot is at its middle column from the line, or from the line of the
+/// descenders, `depth` rows below, where that is nearer. The feet of p, g, y and of commas stand there.
+pub fn weight(slope: i8, offset: i16, depth: u8, rect: &Rect) -> u32
+    ensures value { result ≡ Points.weight slope offset depth rect.now }
     ensures small { result ≤ MAX_WEIGHT }
 {
     let foot = rect.y1() as i32;
-    weight_at(height_at(slope, offset, middle(rect)).abs_diff(foot))
+    let height = height_at(slope, offset, middle(rect));
+    let descent = height + depth as i32;
+    weight_at(height.abs_diff(foot).min(descent.abs_diff(foot)))
 }
 
 /// Whether a line crosses a gutter: whether at the gutter's middle column it passes below the top

@@ -43,16 +43,24 @@ pub fn greatest(sums: &[u32]) -> Score
 
 /// The score of a line among the boxes at the positions in `alive`. The gutters that the line
 /// crosses divide the boxes into columns; a group is the boxes of one column that weigh something.
+/// The depth has no part in what the line crosses.
 ///
 /// One call looks once at each gutter and once at each position, and for a box that weighs
 /// something at each crossed gutter. It takes no memory.
-pub fn score_at(slope: i8, offset: i16, boxes: &Rects, alive: &Numbers, gutters: &Rects) -> Score
+pub fn score_at(
+    slope: i8,
+    offset: i16,
+    depth: u8,
+    boxes: &Rects,
+    alive: &Numbers,
+    gutters: &Rects,
+) -> Score
     requires few_gutters { length gutters.now ≤ MAX_GUTTERS }
     requires few_alive { length alive.now ≤ 60000 }
     requires positions { All (λ position. position < length boxes.now) alive.now }
-    ensures score { IsScore slope offset boxes.now gutters.now alive.now result.score result.column }
+    ensures score { IsScore slope offset depth boxes.now gutters.now alive.now result.score result.column }
     // It is no more than all the boxes weigh, so 0 with column 0 where none weighs anything.
-    ensures total { result.score ≤ sum_by (λ position. weight_of slope offset (slice_get boxes.now position)) alive.now }
+    ensures total { result.score ≤ sum_by (λ position. weight_of slope offset depth (slice_get boxes.now position)) alive.now }
     ensures none { result.score ≡ 0 → result.column ≡ 0 }
     ensures small { result.score ≤ MAX_WEIGHT * length alive.now }
     ensures within { result.column ≤ length gutters.now }
@@ -61,7 +69,7 @@ pub fn score_at(slope: i8, offset: i16, boxes: &Rects, alive: &Numbers, gutters:
     let mut sums = [0; MAX_COLUMNS];
     for position in alive.as_slice() {
         let rect = boxes.get(*position as usize);
-        let weight = weight(slope, offset, rect);
+        let weight = weight(slope, offset, depth, rect);
         if weight > 0 {
             sums[middles.column(middle(rect))] += weight;
         }

@@ -119,9 +119,24 @@ fn a_weight_falls_by_the_square(rt: HostRuntime) -> Result<(), Fail> {
         (-300, 0),
     ];
     for (offset, expected) in cases {
-        assert_eq!(rt; weight(0, offset, &glyph), expected, "offset {offset}");
+        assert_eq!(rt; weight(0, offset, 0, &glyph), expected, "offset {offset}");
     }
     assert_eq!(rt; weight_at(4), 9);
+    Ok(())
+}
+
+#[test]
+fn a_weight_is_that_of_the_nearer_line(rt: HostRuntime) -> Result<(), Fail> {
+    // The foot stands at 34; the baselines at 30, the descenders `depth` rows below.
+    let tail = Rect::new(30, 10, 40, 34).ok_or("no rectangle")?;
+    let cases = [(0, 9), (1, 16), (3, 24), (4, 25), (8, 9), (9, 9), (63, 9)];
+    for (depth, expected) in cases {
+        assert_eq!(rt; weight(0, 30, depth, &tail), expected, "depth {depth}");
+    }
+    let low = Rect::new(30, 10, 40, 93).ok_or("no rectangle")?;
+    assert_eq!(rt; weight(0, 30, 63, &low), 25);
+    assert_eq!(rt; weight(0, 30, 62, &low), 24);
+    assert_eq!(rt; weight(0, 60, 29, &low), 9);
     Ok(())
 }
 
@@ -199,7 +214,7 @@ fn a_score_is_that_of_the_best_column(rt: HostRuntime) -> Result<(), Fail> {
         let gutters = rects(rt.alloc(), gutters)?;
         assert!(rt; boxes.len() <= 60_000 && gutters.len() <= MAX_GUTTERS);
         let alive = positions(rt.alloc(), boxes.len() as u32)?;
-        let found = score_at(slope, offset, &boxes, &alive, &gutters);
+        let found = score_at(slope, offset, 0, &boxes, &alive, &gutters);
         assert_eq!(rt; found, Score { score, column }, "{name}");
     }
     Ok(())
@@ -213,7 +228,7 @@ fn only_living_boxes_count(rt: HostRuntime) -> Result<(), Fail> {
     let mut alive = Numbers::new(rt.alloc());
     alive.push(3)?;
     alive.push(5)?;
-    let found = score_at(0, 12, &boxes, &alive, &gutters);
+    let found = score_at(0, 12, 0, &boxes, &alive, &gutters);
     assert_eq!(rt;
         found,
         Score {
@@ -233,9 +248,9 @@ fn only_living_boxes_count(rt: HostRuntime) -> Result<(), Fail> {
 
 #[test]
 fn a_key_ranks_its_line(rt: HostRuntime) {
-    assert_eq!(rt; line_key(75, 0, 20), 633_405_119);
+    assert_eq!(rt; line_key(75, 0, 20, 0), 40_798_060_223);
 
-    // At score 0 and offset -300 the key shows the rank of the slope.
+    // At score 0, the greatest depth and offset -300 the key shows the rank of the slope.
     let cases = [
         (0, 0),
         (1, 1),
@@ -249,7 +264,7 @@ fn a_key_ranks_its_line(rt: HostRuntime) {
     ];
     for (slope, rank) in cases {
         assert_eq!(rt;
-            line_key(0, slope, -300),
+            line_key(0, slope, -300, 63),
             (64 - rank) * 65_536 + 65_535,
             "slope {slope}"
         );
@@ -258,7 +273,14 @@ fn a_key_ranks_its_line(rt: HostRuntime) {
 
 #[test]
 fn a_key_tells_its_line(rt: HostRuntime) {
-    assert_eq!(rt; point_of(line_key(75, 0, 20)), (0, 20));
-    assert_eq!(rt; point_of(line_key(0, -32, 8492)), (-32, 8492));
-    assert_eq!(rt; point_of(line_key(1_500_000, 32, -300)), (32, -300));
+    let cases = [
+        (75, 0, 20, 0),
+        (0, -32, 8492, 63),
+        (1_500_000, 32, -300, 1),
+        (60, -1, 0, 62),
+    ];
+    for (score, slope, offset, depth) in cases {
+        let key = line_key(score, slope, offset, depth);
+        assert_eq!(rt; point_of(key), (slope, offset, depth), "score {score}");
+    }
 }

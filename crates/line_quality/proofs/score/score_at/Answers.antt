@@ -32,7 +32,7 @@ loop-position-preserved c =
     let there : get_or alive i 0 < length boxes = All-get_or (λ (p : ℕ). p < length boxes) alive i 0 within c.requires.positions in
     let is : rect ≡ get_or boxes (get_or alive i 0) rect = c.get-rect.ensures.item ∙ ap (λ (l : List ℕ). get_or boxes (get_or l i 0) rect) same in
     let read : slice_get boxes (get_or alive i 0) ≡ Some rect = slice_get_read boxes (length boxes) (get_or alive i 0) rect refl there is in
-    let total : ℕ → ℕ → ℕ = λ n column. group_weight slope offset boxes gutters column (take n alive) in
+    let total : ℕ → ℕ → ℕ = λ n column. group_weight slope offset c.args.depth boxes gutters column (take n alive) in
     elim c.if-weight-gt0.branch [
       | then-weight-gt0 w ↦
           let column_is : w.column.result ≡ column_of slope offset gutters (middle_of rect) =
@@ -43,11 +43,11 @@ loop-position-preserved c =
           ∙ ap (column_of slope offset gutters) w.middle.ensures.value in
           subst (AreSums (total (i + 1)) (i + 1) last) (sym w.sums-is)
           (sums_more (total i) (total (i + 1)) i last w.column.result c.weight-weight.result c.loop-position.sums c.loop-position.invariant w.column.ensures.few (omega (arith, c.crossed-middles.ensures.few, ap (λ (l : List Rect). length l) c.as_slice.ensures.same, c.requires.few_gutters)) c.weight-weight.ensures.small
-          (group_grows slope offset boxes gutters alive i rect within read w.column.result c.weight-weight.result column_is c.weight-weight.ensures.value w.if-weight-gt0.true))
+          (group_grows slope offset c.args.depth boxes gutters alive i rect within read w.column.result c.weight-weight.result column_is c.weight-weight.ensures.value w.if-weight-gt0.true))
       | else-weight-gt0 w ↦
           subst (AreSums (total (i + 1)) (i + 1) last) (sym w.sums-is)
           (sums_same (total i) (total (i + 1)) i last c.loop-position.sums c.loop-position.invariant
-          (group_stays slope offset boxes gutters alive i rect within read c.weight-weight.result c.weight-weight.ensures.value w.if-weight-gt0.false))
+          (group_stays slope offset c.args.depth boxes gutters alive i rect within read c.weight-weight.result c.weight-weight.ensures.value w.if-weight-gt0.false))
     ]
 
 pub returns-clause-score : goal.returns-clause-score
@@ -56,7 +56,7 @@ returns-clause-score c =
     let gutters : List Rect = c.args.gutters.now in
     let alive : List ℕ = c.args.alive.now in
     let n = c.loop-position.position-index in
-    let total : ℤ → ℤ → List ℕ → ℕ → ℕ = λ slope offset xs column. group_weight slope offset boxes gutters column xs in
+    let total : ℤ → ℤ → List ℕ → ℕ → ℕ = λ slope offset xs column. group_weight slope offset c.args.depth boxes gutters column xs in
     let long : length alive ≤ n = omega (arith, c.loop-position-test.false, ap (λ (l : List ℕ). length l) c.as_slice-position-items.ensures.same) in
     let whole : (column : ℕ) → total (to_z w8 (of_z w8 c.args.slope)) (to_z w16 (of_z w16 c.args.offset)) (take n alive) column ≡ total c.args.slope c.args.offset alive column =
     λ column. rw (take_all n alive long, to_z-of_z w8 c.args.slope c.ranges.slope, to_z-of_z w16 c.args.offset c.ranges.offset) refl in
@@ -65,4 +65,4 @@ returns-clause-score c =
 
 pub returns-clause-total : goal.returns-clause-total
 returns-clause-total c =
-    score_total c.args.slope c.args.offset c.args.boxes.now c.args.gutters.now c.args.alive.now c.greatest.result.score c.greatest.result.column (returns-clause-score c)
+    score_total c.args.slope c.args.offset c.args.depth c.args.boxes.now c.args.gutters.now c.args.alive.now c.greatest.result.score c.greatest.result.column (returns-clause-score c)
