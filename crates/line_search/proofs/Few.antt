@@ -11,9 +11,9 @@ use Rattle.line_search.specs.Problem.{GridProblem, grid_numbers, HasPointOfKey, 
 use Rattle.line_search.specs.ProblemLaws.{same_grid_problem}
 
 -- a box weighs 25 at most
-light : (slope offset : ℤ) (o : Option Rect) → weight_of slope offset o ≤ 25
-light slope offset (Some r) = let d : ℕ = deviation slope offset r * deviation slope offset r in omega arith
-light slope offset None = omega arith
+light : (slope offset : ℤ) (depth : ℕ) (o : Option Rect) → weight_of slope offset depth o ≤ 25
+light slope offset depth (Some r) = let d : ℕ = deviation slope offset depth r * deviation slope offset depth r in omega arith
+light slope offset depth None = omega arith
 
 light_first : (f : ℕ → ℕ) (x : ℕ) (ys : List ℕ) (n : ℕ) (b : Bool) → f x ≤ 25 → sum_by f ys ≤ 25 * n → sum_by f (cond b (x ∷ ys) ys) ≤ 25 * (n + 1)
 light_first f x ys n true first others = let sum : sum_by f (x ∷ ys) ≡ f x + sum_by f ys = sum_by-cons f x ys in omega (arith, sum, first, others)
@@ -29,9 +29,9 @@ light_together f each p (x ∷ xs) =
 too_light : (problem : GridProblem) (key : ℕ) → length problem.alive < 3 → HasPointOfKey key problem → ⊥
 too_light problem key few point =
     let scored = point.admissible.scored in
-    let most : group_weight point.slope point.offset problem.boxes problem.gutters scored.in_column problem.alive ≤ 25 * length problem.alive =
-    light_together (λ position. weight_of point.slope point.offset (slice_get problem.boxes position)) (λ position. light point.slope point.offset (slice_get problem.boxes position))
-    (λ position. is_of point.slope point.offset problem.gutters scored.in_column (slice_get problem.boxes position)) problem.alive in
+    let most : group_weight point.slope point.offset point.depth problem.boxes problem.gutters scored.in_column problem.alive ≤ 25 * length problem.alive =
+    light_together (λ position. weight_of point.slope point.offset point.depth (slice_get problem.boxes position)) (λ position. light point.slope point.offset point.depth (slice_get problem.boxes position))
+    (λ position. is_of point.slope point.offset point.depth problem.gutters scored.in_column (slice_get problem.boxes position)) problem.alive in
     omega (arith, few, most, scored.scored.reached, point.admissible.enough)
 
 -- no key is admitted, and 0 says so

@@ -16,7 +16,7 @@ use Rattle.line_quality.specs.Scores.{IsScore, group_of, group_weight, is_of, we
 use Rattle.line_quality.specs.Keys.{line_key}
 use Rattle.line_search.specs.declared.rows.Rows.{Rows}
 use Rattle.line_search.specs.declared.windows.Window.{Window}
-use Rattle.line_search.specs.Lines.{without}
+use Rattle.line_search.specs.Lines.{deepest, without}
 use Rattle.line_search.specs.Problem.{GridProblem, grid_numbers, HasPointOfKey, IsGridKey}
 use Rattle.line_search.specs.GridLaws.{admitted_here, grid_positive}
 use Rattle.line_search.specs.Windows.{stands_in, standing, within, IsSearchedWindow, HasFeet, HaveFeet}
@@ -35,24 +35,24 @@ all_at P xs k x inside there all = subst P there (all k x inside)
 has_weight : (a c w : ℕ) → (eqb a c && ltb 0 w) ≡ true → 0 < w
 has_weight a c w is = grind (arith, nat_tests)
 
-module _ (boxes gutters : List Rect) (rows : Rows) (slope offset : ℤ) (in_slopes : IsSlope slope) where
-  member_stands : HasFeet boxes offset rows → (in_column position : ℕ) (o : Option Rect) → slice_get boxes position ≡ o → is_of slope offset gutters in_column o ≡ true → stands_in rows o ≡ true
+module _ (boxes gutters : List Rect) (rows : Rows) (slope offset : ℤ) (depth deep : ℕ) (in_slopes : IsSlope slope) (shallow : depth ≤ deep) where
+  member_stands : HasFeet boxes deep offset rows → (in_column position : ℕ) (o : Option Rect) → slice_get boxes position ≡ o → is_of slope offset depth gutters in_column o ≡ true → stands_in rows o ≡ true
   member_stands round in_column position (Some r) read is =
-      at_box (λ (box : Rect). (s : ℤ) → IsSlope s → 0 < weight s offset box → stands_in rows (Some box) ≡ true) boxes position r read round slope in_slopes
-      (has_weight (column_of slope offset gutters (middle_of r)) in_column (weight slope offset r) is)
+      at_box (λ (box : Rect). (s : ℤ) (d : ℕ) → IsSlope s → d ≤ deep → 0 < weight s offset d box → stands_in rows (Some box) ≡ true) boxes position r read round slope depth in_slopes shallow
+      (has_weight (column_of slope offset gutters (middle_of r)) in_column (weight slope offset depth r) is)
   member_stands round in_column position None read is = absurd (let no : false ≡ true = is in cc)
 
   -- the boxes in the rows have the groups of all boxes
-  same_within : HasFeet boxes offset rows → (in_column : ℕ) (alive : List ℕ) → group_of slope offset boxes gutters in_column (standing rows boxes alive) ≡ group_of slope offset boxes gutters in_column alive
+  same_within : HasFeet boxes deep offset rows → (in_column : ℕ) (alive : List ℕ) → group_of slope offset depth boxes gutters in_column (standing rows boxes alive) ≡ group_of slope offset depth boxes gutters in_column alive
   same_within round in_column alive =
-      filter_twice (λ position. is_of slope offset gutters in_column (slice_get boxes position)) (λ position. stands_in rows (slice_get boxes position))
+      filter_twice (λ position. is_of slope offset depth gutters in_column (slice_get boxes position)) (λ position. stands_in rows (slice_get boxes position))
       (λ position is. member_stands round in_column position (slice_get boxes position) refl is) alive
 
   -- and so the score
-  scored_within : HasFeet boxes offset rows → (alive : List ℕ) (score in_column : ℕ) → IsScore slope offset boxes gutters alive score in_column → IsScore slope offset boxes gutters (standing rows boxes alive) score in_column
+  scored_within : HasFeet boxes deep offset rows → (alive : List ℕ) (score in_column : ℕ) → IsScore slope offset depth boxes gutters alive score in_column → IsScore slope offset depth boxes gutters (standing rows boxes alive) score in_column
   scored_within round alive score in_column scored =
-      let weigh : List ℕ → ℕ = λ xs. sum_by (λ (position : ℕ). weight_of slope offset (slice_get boxes position)) xs in
-      let same : (k : ℕ) → group_weight slope offset boxes gutters k (standing rows boxes alive) ≡ group_weight slope offset boxes gutters k alive =
+      let weigh : List ℕ → ℕ = λ xs. sum_by (λ (position : ℕ). weight_of slope offset depth (slice_get boxes position)) xs in
+      let same : (k : ℕ) → group_weight slope offset depth boxes gutters k (standing rows boxes alive) ≡ group_weight slope offset depth boxes gutters k alive =
       λ k. ap weigh (same_within round k alive) in
       record {
         reached = same in_column ∙ scored.reached;
@@ -93,39 +93,39 @@ window_of P windows found = ⊎_elim
     (λ past. absurd (omega (arith, past.0, found.2, length-map windows (λ (w : Window). w.rows))))
     (slice_get_cases windows found.0).1
 
-better_key : (score more : ℕ) (slope offset : ℤ) → score ≤ more → line_key score slope offset ≤ line_key more slope offset
-better_key score more slope offset less = omega arith
+better_key : (score more : ℕ) (slope offset : ℤ) (depth : ℕ) → score ≤ more → line_key score slope offset depth ≤ line_key more slope offset depth
+better_key score more slope offset depth less = omega arith
 
-module _ (problem : GridProblem) (windows : List Window) (key : ℕ) (round : HaveFeet problem.boxes problem.height (map (λ (w : Window). w.rows) windows)) (searched : All (IsSearchedWindow problem) windows) (greatest : All (λ w. w.key ≤ key) windows) where
+module _ (problem : GridProblem) (windows : List Window) (key : ℕ) (round : HaveFeet problem.boxes problem.height (deepest problem.median) (map (λ (w : Window). w.rows) windows)) (searched : All (IsSearchedWindow problem) windows) (greatest : All (λ w. w.key ≤ key) windows) where
   -- no key of the whole grid is greater
   whole_greatest : (other : ℕ) → IsGridKey (grid_numbers problem) other → other ≤ key
   whole_greatest other admitted =
       let here : HasPointOfKey other problem = admitted_here problem (grid_numbers problem) other refl admitted in
       let scored = here.admissible.scored in
-      let at = window_of (HasFeet problem.boxes here.offset) windows (round here.offset scored.point.low scored.point.high) in
+      let at = window_of (HasFeet problem.boxes (deepest problem.median) here.offset) windows (round here.offset scored.point.low scored.point.high) in
       let part : GridProblem = within at.window.rows problem in
-      let admissible : IsAdmissibleIn part here.slope here.offset here.score = record {
-        scored = record { point = scored.point; in_column = scored.in_column; scored = scored_within problem.boxes problem.gutters at.window.rows here.slope here.offset scored.point.slope_in at.holds problem.alive here.score scored.in_column scored.scored };
+      let admissible : IsAdmissibleIn part here.slope here.offset here.depth here.score = record {
+        scored = record { point = scored.point; in_column = scored.in_column; scored = scored_within problem.boxes problem.gutters at.window.rows here.slope here.offset here.depth (deepest problem.median) scored.point.slope_in scored.point.shallow at.holds problem.alive here.score scored.in_column scored.scored };
         enough = here.admissible.enough;
       } in
       let answer : IsSearchedWindow problem at.window = all_at (IsSearchedWindow problem) windows at.place at.window at.inside at.there searched in
       let low : at.window.key ≤ key = all_at (λ (w : Window). w.key ≤ key) windows at.place at.window at.inside at.there greatest in
-      omega (arith, here.has_key, low, answer.greatest (line_key here.score here.slope here.offset) (admits part here.slope here.offset here.score admissible))
+      omega (arith, here.has_key, low, answer.greatest (line_key here.score here.slope here.offset here.depth) (admits part here.slope here.offset here.depth here.score admissible))
 
   -- the key of a window is admitted in the whole grid, where it is the greatest
   whole_sound : (window : Window) → IsSearchedWindow problem window → window.key ≡ key → HasPointOfKey window.key (within window.rows problem) → IsGridKey (grid_numbers problem) key
   whole_sound window answer same here =
       let scored = here.admissible.scored in
-      let all = score_exists here.slope here.offset problem.boxes problem.gutters problem.alive in
-      let less : group_weight here.slope here.offset problem.boxes problem.gutters scored.in_column (standing window.rows problem.boxes problem.alive) ≤ group_weight here.slope here.offset problem.boxes problem.gutters scored.in_column problem.alive =
-      some_weigh_less (λ position. is_of here.slope here.offset problem.gutters scored.in_column (slice_get problem.boxes position)) (λ position. stands_in window.rows (slice_get problem.boxes position)) (λ position. weight_of here.slope here.offset (slice_get problem.boxes position)) problem.alive in
+      let all = score_exists here.slope here.offset here.depth problem.boxes problem.gutters problem.alive in
+      let less : group_weight here.slope here.offset here.depth problem.boxes problem.gutters scored.in_column (standing window.rows problem.boxes problem.alive) ≤ group_weight here.slope here.offset here.depth problem.boxes problem.gutters scored.in_column problem.alive =
+      some_weigh_less (λ position. is_of here.slope here.offset here.depth problem.gutters scored.in_column (slice_get problem.boxes position)) (λ position. stands_in window.rows (slice_get problem.boxes position)) (λ position. weight_of here.slope here.offset here.depth (slice_get problem.boxes position)) problem.alive in
       let more : here.score ≤ all.0 = omega (arith, less, scored.scored.reached, all.2.greatest scored.in_column) in
-      let admissible : IsAdmissibleIn problem here.slope here.offset all.0 = record {
+      let admissible : IsAdmissibleIn problem here.slope here.offset here.depth all.0 = record {
         scored = record { point = scored.point; in_column = all.1; scored = all.2 };
         enough = omega (arith, more, here.admissible.enough);
       } in
-      let admitted : IsGridKey (grid_numbers problem) (line_key all.0 here.slope here.offset) = admits problem here.slope here.offset all.0 admissible in
-      let is : line_key all.0 here.slope here.offset ≡ key = omega (arith, same, here.has_key, better_key here.score all.0 here.slope here.offset more, whole_greatest (line_key all.0 here.slope here.offset) admitted) in
+      let admitted : IsGridKey (grid_numbers problem) (line_key all.0 here.slope here.offset here.depth) = admits problem here.slope here.offset here.depth all.0 admissible in
+      let is : line_key all.0 here.slope here.offset here.depth ≡ key = omega (arith, same, here.has_key, better_key here.score all.0 here.slope here.offset here.depth more, whole_greatest (line_key all.0 here.slope here.offset here.depth) admitted) in
       subst (IsGridKey (grid_numbers problem)) is admitted
 
   -- so the greatest of the keys of the windows is the answer
@@ -177,7 +177,7 @@ others_kept old new members items windows slice is same same_windows searched =
     (subst (λ (ws : List Window). All (λ window. All (λ member. stands_in window.rows (slice_get old.boxes member) ≡ false) members → IsSearchedWindow (record old { alive = without members old.alive }) window) ws) (sym same_windows) kept))
 
 -- the answer, where the windows are read as a slice
-pub answer_of : (problem : GridProblem) (windows slice : List Window) (key : ℕ) → slice ≡ windows → HaveFeet problem.boxes problem.height (map (λ (w : Window). w.rows) windows) → All (IsSearchedWindow problem) windows → All (λ w. w.key ≤ key) slice → (key ≡ 0) ⊎ Any (λ w. w.key ≡ key) slice → IsGridAnswer problem key
+pub answer_of : (problem : GridProblem) (windows slice : List Window) (key : ℕ) → slice ≡ windows → HaveFeet problem.boxes problem.height (deepest problem.median) (map (λ (w : Window). w.rows) windows) → All (IsSearchedWindow problem) windows → All (λ w. w.key ≤ key) slice → (key ≡ 0) ⊎ Any (λ w. w.key ≡ key) slice → IsGridAnswer problem key
 answer_of problem windows slice key same round searched greatest reached =
     whole_answer problem windows key round searched
     (subst (λ (ws : List Window). All (λ w. w.key ≤ key) ws) same greatest)

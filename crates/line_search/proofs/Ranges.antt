@@ -4,10 +4,9 @@ use Rattle.std.proofs.lemmas.Int.{ints, clamps, by_lt_z}
 use Rattle.std.proofs.lemmas.Bool.Decides.{nat_tests}
 use Rattle.std.specs.Int.{int_gap, int_max, int_min, int_div_euclid}
 use Rattle.box_search.specs.declared.space.Shape.{Shape}
-use Rattle.layout_geom.specs.declared.rect.Rect.{Rect}
-use Rattle.line_quality.specs.Points.{height_at, middle_of, IsSlope}
+use Rattle.line_quality.specs.Points.{height_at, IsSlope}
 use Rattle.line_search.specs.Shapes.{IsInGrid, whole_grid}
-use Rattle.line_search.specs.Bounds.{lowest, highest, distance, nearest_slope}
+use Rattle.line_search.specs.Bounds.{nearest_slope}
 use Rattle.line_search.specs.Parts.{half}
 use Rattle.line_search.proofs.Heights.{int_gap_is}
 use borrow.Author.Differences.{up, down}
@@ -37,31 +36,29 @@ pub back_32 : (z : ℤ) → negsuc 49999 ≤ℤ z → z ≤ℤ pos 50000 → to_
 back_32 z low high = omega (arith, ints)
 
 -- how far a foot is below a height, and above it
-below_is : (low : ℤ) (y : ℕ) (above : ℤ) → negsuc 49999 ≤ℤ low → low ≤ℤ pos 50000 → y < 2 ^ 16 → above ≡ int_max (to_z w32 (of_z w32 (to_z w32 (of_z w32 low) -ℤ to_z w32 y))) (pos 0) → nat_abs (to_z w32 (of_z w32 above)) ≡ int_gap (pos y) low
+pub below_is : (low : ℤ) (y : ℕ) (above : ℤ) → negsuc 59999 ≤ℤ low → low ≤ℤ pos 60000 → y < 2 ^ 16 → above ≡ int_max (to_z w32 (of_z w32 (to_z w32 (of_z w32 low) -ℤ to_z w32 y))) (pos 0) → nat_abs (to_z w32 (of_z w32 above)) ≡ int_gap (pos y) low
 below_is low y above a b c e = omega (arith, ints, clamps, int_gap_is (pos y) low)
 
-above_is : (high : ℤ) (y : ℕ) (below : ℤ) → negsuc 49999 ≤ℤ high → high ≤ℤ pos 50000 → y < 2 ^ 16 → below ≡ int_max (to_z w32 (of_z w32 (to_z w32 y -ℤ to_z w32 (of_z w32 high)))) (pos 0) → nat_abs (to_z w32 (of_z w32 below)) ≡ int_gap high (pos y)
+pub above_is : (high : ℤ) (y : ℕ) (below : ℤ) → negsuc 59999 ≤ℤ high → high ≤ℤ pos 60000 → y < 2 ^ 16 → below ≡ int_max (to_z w32 (of_z w32 (to_z w32 y -ℤ to_z w32 (of_z w32 high)))) (pos 0) → nat_abs (to_z w32 (of_z w32 below)) ≡ int_gap high (pos y)
 above_is high y below a b c e = omega (arith, ints, clamps, int_gap_is high (pos y))
 
-pub distance_is : (shape : Shape) (r : Rect) (anchor foot : ℕ) (low high above below : ℤ) → anchor ≡ middle_of r → foot ≡ r.y1 → foot < 2 ^ 16
-    → low ≡ lowest shape anchor → (negsuc 49999 ≤ℤ low) × (low ≤ℤ pos 50000) → high ≡ highest shape anchor → (negsuc 49999 ≤ℤ high) × (high ≤ℤ pos 50000)
-    → above ≡ int_max (to_z w32 (of_z w32 (to_z w32 (of_z w32 low) -ℤ to_z w32 foot))) (pos 0)
-    → below ≡ int_max (to_z w32 (of_z w32 (to_z w32 foot -ℤ to_z w32 (of_z w32 high)))) (pos 0)
-    → nat_abs (to_z w32 (of_z w32 above)) + nat_abs (to_z w32 (of_z w32 below)) ≡ distance shape r
-distance_is shape r anchor foot low high above below x y fits is_low in_low is_high in_high is_above is_below =
-    let first : nat_abs (to_z w32 (of_z w32 above)) ≡ int_gap (pos r.y1) (lowest shape (middle_of r)) = below_is low foot above in_low.0 in_low.1 fits is_above ∙ rw (is_low, x, y) refl in
-    let second : nat_abs (to_z w32 (of_z w32 below)) ≡ int_gap (highest shape (middle_of r)) (pos r.y1) = above_is high foot below in_high.0 in_high.1 fits is_below ∙ rw (is_high, x, y) refl in
-    rw (first, second) refl
+-- a height so many rows lower, as the code computes it
+pub lower_is : (h c : ℤ) → negsuc 49999 ≤ℤ h → h ≤ℤ pos 50000 → pos 0 ≤ℤ c → c ≤ℤ pos 64 → to_z w32 (of_z w32 (to_z w32 (of_z w32 h) +ℤ to_z w32 (of_z w32 c))) ≡ h +ℤ c
+lower_is h c a b from to = omega (arith, ints)
+
+pub lower_less_is : (h c : ℤ) → negsuc 49999 ≤ℤ h → h ≤ℤ pos 50000 → pos 0 ≤ℤ c → c ≤ℤ pos 64
+    → to_z w32 (of_z w32 (to_z w32 (of_z w32 h) +ℤ to_z w32 (of_z w32 (to_z w32 (of_z w32 c) -ℤ pos 1)))) ≡ h +ℤ (c -ℤ pos 1)
+lower_less_is h c a b from to = omega (arith, ints)
 
 pub nearest_is : (a0 a1 least most : ℤ) → negsuc 31 ≤ℤ a0 → a0 <ℤ a1 → a1 ≤ℤ pos 33 → least ≡ int_min (to_z w32 (of_z w32 (to_z w32 (of_z w32 a1) -ℤ pos 1))) (pos 0) → most ≡ int_max (to_z w32 (of_z w32 a0)) (to_z w32 (of_z w32 least))
     → to_z w8 (of_z w8 (to_z w32 (of_z w32 most))) ≡ int_max a0 (int_min (a1 -ℤ pos 1) (pos 0))
 nearest_is a0 a1 least most low some high is_least is_most = omega (arith, ints, clamps)
 
 -- the slope nearest to 0 is one of the grid
-pub nearest_back : (shape : Shape) → IsInGrid 8192 shape → (near : ℤ) → near ≡ nearest_slope shape → to_z w8 (of_z w8 near) ≡ nearest_slope shape
+pub nearest_back : (shape : Shape) → IsInGrid 8192 63 shape → (near : ℤ) → near ≡ nearest_slope shape → to_z w8 (of_z w8 near) ≡ nearest_slope shape
 nearest_back shape grid near is = omega (arith, ints, clamps, grid.from_slope, grid.some_slope, grid.to_slope)
 
-pub nearest_in : (shape : Shape) → IsInGrid 8192 shape → IsSlope (nearest_slope shape)
+pub nearest_in : (shape : Shape) → IsInGrid 8192 63 shape → IsSlope (nearest_slope shape)
 nearest_in shape grid = record {
   low = omega (arith, ints, clamps, grid.from_slope, grid.some_slope, grid.to_slope);
   high = omega (arith, ints, clamps, grid.from_slope, grid.some_slope, grid.to_slope);
@@ -86,42 +83,57 @@ half_parts (negsuc a) = omega arith
 pub half_inside : (low high : ℤ) → (low +ℤ pos 2) ≤ℤ high → (low <ℤ half low high) × (half low high <ℤ high)
 half_inside low high long = (omega (arith, ints, half_parts (low +ℤ high)), omega (arith, ints, half_parts (low +ℤ high)))
 
--- a range that is not shorter than the other has two numbers, where not both have one
-pub long_enough : (low high other_low other_high : ℤ) → low <ℤ high → other_low <ℤ other_high → (other_high ≡ other_low +ℤ pos 1 → high ≡ low +ℤ pos 1 → ⊥) → (other_high -ℤ other_low) ≤ℤ (high -ℤ low) → (low +ℤ pos 2) ≤ℤ high
-long_enough low high other_low other_high some other_some wide longer =
-    by_lt_z high (low +ℤ pos 2)
-    (λ short. absurd (wide (omega (arith, ints)) (omega (arith, ints))))
+-- a range whose cut gains at least what the others gain has two numbers, where not all have one
+pub chosen_long : (x0 x1 y0 y1 z0 z1 gx gy gz : ℤ) → x0 <ℤ x1 → y0 <ℤ y1 → z0 <ℤ z1
+    → (x1 ≡ x0 +ℤ pos 1 → y1 ≡ y0 +ℤ pos 1 → z1 ≡ z0 +ℤ pos 1 → ⊥) → (x1 ≤ℤ (x0 +ℤ pos 1) → gx ≡ pos 0)
+    → ((y0 +ℤ pos 2) ≤ℤ y1 → pos 1 ≤ℤ gy) → ((z0 +ℤ pos 2) ≤ℤ z1 → pos 1 ≤ℤ gz) → gy ≤ℤ gx → gz ≤ℤ gx → (x0 +ℤ pos 2) ≤ℤ x1
+chosen_long x0 x1 y0 y1 z0 z1 gx gy gz some_x some_y some_z wide none_x gain_y gain_z most_y most_z =
+    by_lt_z x1 (x0 +ℤ pos 2)
+    (λ short.
+    let nothing : gx ≡ pos 0 = none_x (omega (arith, ints)) in
+    by_lt_z y1 (y0 +ℤ pos 2)
+    (λ short_y. by_lt_z z1 (z0 +ℤ pos 2)
+    (λ short_z. absurd (wide (omega (arith, ints)) (omega (arith, ints)) (omega (arith, ints))))
+    (λ long_z. absurd (omega (arith, ints, nothing, most_z, gain_z long_z))))
+    (λ long_y. absurd (omega (arith, ints, nothing, most_y, gain_y long_y))))
     (λ long. long)
 
-pub kept_in : (shape : Shape) → IsInGrid 8192 shape → (to_z w32 (of_z w32 shape.a0) ≡ shape.a0) × (to_z w32 (of_z w32 shape.a1) ≡ shape.a1) × (to_z w32 (of_z w32 shape.b0) ≡ shape.b0) × (to_z w32 (of_z w32 shape.b1) ≡ shape.b1) × (to_z w32 (of_z w32 shape.c0) ≡ shape.c0) × (to_z w32 (of_z w32 shape.c1) ≡ shape.c1)
+pub kept_in : (shape : Shape) → IsInGrid 8192 63 shape → (to_z w32 (of_z w32 shape.a0) ≡ shape.a0) × (to_z w32 (of_z w32 shape.a1) ≡ shape.a1) × (to_z w32 (of_z w32 shape.b0) ≡ shape.b0) × (to_z w32 (of_z w32 shape.b1) ≡ shape.b1) × (to_z w32 (of_z w32 shape.c0) ≡ shape.c0) × (to_z w32 (of_z w32 shape.c1) ≡ shape.c1)
 kept_in shape grid = (
   in_32 shape.a0 (omega (arith, ints, grid.from_slope)) (omega (arith, ints, grid.some_slope, grid.to_slope)),
   in_32 shape.a1 (omega (arith, ints, grid.from_slope, grid.some_slope)) (omega (arith, ints, grid.to_slope)),
   in_32 shape.b0 (omega (arith, ints, grid.from_offset)) (omega (arith, ints, grid.some_offset, grid.to_offset)),
   in_32 shape.b1 (omega (arith, ints, grid.from_offset, grid.some_offset)) (omega (arith, ints, grid.to_offset)),
-  rw grid.from_third refl,
-  rw grid.to_third refl,
+  in_32 shape.c0 (omega (arith, ints, grid.from_depth)) (omega (arith, ints, grid.some_depth, grid.to_depth)),
+  in_32 shape.c1 (omega (arith, ints, grid.from_depth, grid.some_depth)) (omega (arith, ints, grid.to_depth)),
 )
 
-pub offsets_cut : (shape : Shape) → IsInGrid 8192 shape → (middle : ℤ) → middle ≡ half (to_z w16 (of_z w16 (to_z w32 (of_z w32 shape.b0)))) (to_z w16 (of_z w16 (to_z w32 (of_z w32 shape.b1)))) → to_z w32 (of_z w32 middle) ≡ half shape.b0 shape.b1
+pub offsets_cut : (shape : Shape) → IsInGrid 8192 63 shape → (middle : ℤ) → middle ≡ half (to_z w16 (of_z w16 (to_z w32 (of_z w32 shape.b0)))) (to_z w16 (of_z w16 (to_z w32 (of_z w32 shape.b1)))) → to_z w32 (of_z w32 middle) ≡ half shape.b0 shape.b1
 offsets_cut shape grid middle is =
     let e : middle ≡ half shape.b0 shape.b1 = is ∙ rw (in_16 shape.b0 grid.from_offset (omega (arith, ints, grid.some_offset, grid.to_offset)), in_16 shape.b1 (omega (arith, ints, grid.from_offset, grid.some_offset)) (omega (arith, ints, grid.to_offset))) refl in
     in_32 middle (omega (arith, ints, e, half_parts (shape.b0 +ℤ shape.b1), grid.from_offset, grid.some_offset)) (omega (arith, ints, e, half_parts (shape.b0 +ℤ shape.b1), grid.some_offset, grid.to_offset)) ∙ e
 
-pub slopes_cut : (shape : Shape) → IsInGrid 8192 shape → (middle : ℤ) → middle ≡ half (to_z w16 (of_z w16 (to_z w32 (of_z w32 shape.a0)))) (to_z w16 (of_z w16 (to_z w32 (of_z w32 shape.a1)))) → to_z w32 (of_z w32 middle) ≡ half shape.a0 shape.a1
+pub slopes_cut : (shape : Shape) → IsInGrid 8192 63 shape → (middle : ℤ) → middle ≡ half (to_z w16 (of_z w16 (to_z w32 (of_z w32 shape.a0)))) (to_z w16 (of_z w16 (to_z w32 (of_z w32 shape.a1)))) → to_z w32 (of_z w32 middle) ≡ half shape.a0 shape.a1
 slopes_cut shape grid middle is =
     let e : middle ≡ half shape.a0 shape.a1 = is ∙ rw (in_16 shape.a0 (omega (arith, ints, grid.from_slope)) (omega (arith, ints, grid.some_slope, grid.to_slope)), in_16 shape.a1 (omega (arith, ints, grid.from_slope, grid.some_slope)) (omega (arith, ints, grid.to_slope))) refl in
     in_32 middle (omega (arith, ints, e, half_parts (shape.a0 +ℤ shape.a1), grid.from_slope, grid.some_slope)) (omega (arith, ints, e, half_parts (shape.a0 +ℤ shape.a1), grid.some_slope, grid.to_slope)) ∙ e
 
-pub foot_is : (height page : ℕ) → height ≤ 8192 → height ≡ page → shape_with (negsuc 31) (pos 33) (negsuc 299) (to_z w32 (of_z w32 (to_z w32 (of_z w32 (to_z w32 height +ℤ pos 300)) +ℤ pos 1))) (pos 0) (pos 1) ≡ whole_grid page
-foot_is height page high is =
-    let foot : to_z w32 (of_z w32 (to_z w32 (of_z w32 (to_z w32 height +ℤ pos 300)) +ℤ pos 1)) ≡ pos (page + 300 + 1) = omega (arith, ints) in
-    rw foot refl
+pub depths_cut : (shape : Shape) → IsInGrid 8192 63 shape → (middle : ℤ) → middle ≡ half (to_z w16 (of_z w16 (to_z w32 (of_z w32 shape.c0)))) (to_z w16 (of_z w16 (to_z w32 (of_z w32 shape.c1)))) → to_z w32 (of_z w32 middle) ≡ half shape.c0 shape.c1
+depths_cut shape grid middle is =
+    let e : middle ≡ half shape.c0 shape.c1 = is ∙ rw (in_16 shape.c0 (omega (arith, ints, grid.from_depth)) (omega (arith, ints, grid.some_depth, grid.to_depth)), in_16 shape.c1 (omega (arith, ints, grid.from_depth, grid.some_depth)) (omega (arith, ints, grid.to_depth))) refl in
+    in_32 middle (omega (arith, ints, e, half_parts (shape.c0 +ℤ shape.c1), grid.from_depth, grid.some_depth)) (omega (arith, ints, e, half_parts (shape.c0 +ℤ shape.c1), grid.some_depth, grid.to_depth)) ∙ e
 
-pub lowest_is : (shape : Shape) → IsInGrid 8192 shape → (x : ℕ) → height_at (to_z w8 (of_z w8 (to_z w32 (of_z w32 shape.a0)))) (to_z w16 (of_z w16 (to_z w32 (of_z w32 shape.b0)))) x ≡ height_at shape.a0 shape.b0 x
+pub foot_is : (height page deep most : ℕ) → height ≤ 8192 → height ≡ page → deep ≡ most → most ≤ 63
+    → shape_with (negsuc 31) (pos 33) (negsuc 299) (to_z w32 (of_z w32 (to_z w32 (of_z w32 (to_z w32 height +ℤ pos 300)) +ℤ pos 1))) (pos 0) (to_z w32 (of_z w32 (to_z w32 deep +ℤ pos 1))) ≡ whole_grid page most
+foot_is height page deep most high is same shallow =
+    let foot : to_z w32 (of_z w32 (to_z w32 (of_z w32 (to_z w32 height +ℤ pos 300)) +ℤ pos 1)) ≡ pos (page + 300 + 1) = omega (arith, ints) in
+    let depth : to_z w32 (of_z w32 (to_z w32 deep +ℤ pos 1)) ≡ pos (most + 1) = omega (arith, ints) in
+    rw (foot, depth) refl
+
+pub lowest_is : (shape : Shape) → IsInGrid 8192 63 shape → (x : ℕ) → height_at (to_z w8 (of_z w8 (to_z w32 (of_z w32 shape.a0)))) (to_z w16 (of_z w16 (to_z w32 (of_z w32 shape.b0)))) x ≡ height_at shape.a0 shape.b0 x
 lowest_is shape grid x = rw (in_8 shape.a0 grid.from_slope (omega (arith, ints, grid.some_slope, grid.to_slope)), in_16 shape.b0 grid.from_offset (omega (arith, ints, grid.some_offset, grid.to_offset))) refl
 
-pub highest_is : (shape : Shape) → IsInGrid 8192 shape → (x : ℕ) → height_at (to_z w8 (of_z w8 (to_z w32 (of_z w32 (to_z w32 (of_z w32 shape.a1) -ℤ pos 1))))) (to_z w16 (of_z w16 (to_z w32 (of_z w32 (to_z w32 (of_z w32 shape.b1) -ℤ pos 1))))) x ≡ height_at (shape.a1 -ℤ pos 1) (shape.b1 -ℤ pos 1) x
+pub highest_is : (shape : Shape) → IsInGrid 8192 63 shape → (x : ℕ) → height_at (to_z w8 (of_z w8 (to_z w32 (of_z w32 (to_z w32 (of_z w32 shape.a1) -ℤ pos 1))))) (to_z w16 (of_z w16 (to_z w32 (of_z w32 (to_z w32 (of_z w32 shape.b1) -ℤ pos 1))))) x ≡ height_at (shape.a1 -ℤ pos 1) (shape.b1 -ℤ pos 1) x
 highest_is shape grid x = rw (in_8_less shape.a1 (omega (arith, ints, grid.some_slope, grid.from_slope)) grid.to_slope, in_16_less shape.b1 (omega (arith, ints, grid.some_offset, grid.from_offset)) (omega (arith, ints, grid.to_offset))) refl
 
 -- what holds between two heights, as the code compares them

@@ -49,22 +49,22 @@ has_weight : (a w : ℕ) (b : Bool) → (b && ltb 0 w) ≡ true → w ≤ a → 
 has_weight a w true some more = above_some w a more some
 has_weight a w false some more = absurd (let no : false ≡ true = some in cc)
 
-member_reaches : (shape : Shape) (slope offset : ℤ) → IsInside slope offset shape → (gutters : List Rect) (in_column : ℕ) (o : Option Rect) → is_of slope offset gutters in_column o ≡ true → ltb 0 (most_weight shape o) ≡ true
-member_reaches shape slope offset inside gutters in_column (Some r) is = has_weight (most_weight shape (Some r)) (weight slope offset r) (eqb (column_of slope offset gutters (middle_of r)) in_column) is (weight_below shape slope offset inside (Some r))
-member_reaches shape slope offset inside gutters in_column None is = absurd (let no : false ≡ true = is in cc)
+member_reaches : (shape : Shape) (slope offset : ℤ) (depth : ℕ) → IsInside slope offset depth shape → (gutters : List Rect) (in_column : ℕ) (o : Option Rect) → is_of slope offset depth gutters in_column o ≡ true → ltb 0 (most_weight shape o) ≡ true
+member_reaches shape slope offset depth inside gutters in_column (Some r) is = has_weight (most_weight shape (Some r)) (weight slope offset depth r) (eqb (column_of slope offset gutters (middle_of r)) in_column) is (weight_below shape slope offset depth inside (Some r))
+member_reaches shape slope offset depth inside gutters in_column None is = absurd (let no : false ≡ true = is in cc)
 
 -- the members of a group can weigh something
-group_twice : (shape : Shape) (slope offset : ℤ) → IsInside slope offset shape → (boxes gutters : List Rect) (in_column : ℕ) (xs : List ℕ) → group_of slope offset boxes gutters in_column (weighing shape boxes xs) ≡ group_of slope offset boxes gutters in_column xs
-group_twice shape slope offset inside boxes gutters in_column xs =
-    filter_twice (λ position. is_of slope offset gutters in_column (slice_get boxes position)) (λ position. ltb 0 (most_weight shape (slice_get boxes position)))
-    (λ position is. member_reaches shape slope offset inside gutters in_column (slice_get boxes position) is) xs
+group_twice : (shape : Shape) (slope offset : ℤ) (depth : ℕ) → IsInside slope offset depth shape → (boxes gutters : List Rect) (in_column : ℕ) (xs : List ℕ) → group_of slope offset depth boxes gutters in_column (weighing shape boxes xs) ≡ group_of slope offset depth boxes gutters in_column xs
+group_twice shape slope offset depth inside boxes gutters in_column xs =
+    filter_twice (λ position. is_of slope offset depth gutters in_column (slice_get boxes position)) (λ position. ltb 0 (most_weight shape (slice_get boxes position)))
+    (λ position is. member_reaches shape slope offset depth inside gutters in_column (slice_get boxes position) is) xs
 
 -- so a group among the positions of a node is one among all that are alive
-pub same_group : (problem : GridProblem) (shape : Shape) (slope offset : ℤ) → IsInside slope offset shape → (positions : List ℕ) → weighing shape problem.boxes positions ≡ weighing shape problem.boxes problem.alive → (in_column : ℕ) → group_of slope offset problem.boxes problem.gutters in_column positions ≡ group_of slope offset problem.boxes problem.gutters in_column problem.alive
-same_group problem shape slope offset inside positions same in_column =
-    sym (group_twice shape slope offset inside problem.boxes problem.gutters in_column positions)
-    ∙ ap (group_of slope offset problem.boxes problem.gutters in_column) same
-    ∙ group_twice shape slope offset inside problem.boxes problem.gutters in_column problem.alive
+pub same_group : (problem : GridProblem) (shape : Shape) (slope offset : ℤ) (depth : ℕ) → IsInside slope offset depth shape → (positions : List ℕ) → weighing shape problem.boxes positions ≡ weighing shape problem.boxes problem.alive → (in_column : ℕ) → group_of slope offset depth problem.boxes problem.gutters in_column positions ≡ group_of slope offset depth problem.boxes problem.gutters in_column problem.alive
+same_group problem shape slope offset depth inside positions same in_column =
+    sym (group_twice shape slope offset depth inside problem.boxes problem.gutters in_column positions)
+    ∙ ap (group_of slope offset depth problem.boxes problem.gutters in_column) same
+    ∙ group_twice shape slope offset depth inside problem.boxes problem.gutters in_column problem.alive
 
 part_twice : (shape part : Shape) → HasCorners shape part → (boxes : List Rect) (xs : List ℕ) → weighing part boxes (weighing shape boxes xs) ≡ weighing part boxes xs
 part_twice shape part corners boxes xs =

@@ -22,11 +22,11 @@ characters_rise kept = IsStrictlyIncreasing-filter (λ position. is_character ke
 abbrev MembersRise : Line → Type 0
 MembersRise line = IsStrictlyIncreasing line.members
 
-pub members_rise : (boxes gutters : List Rect) (height : ℕ) (alive : List ℕ) (lines : List Line) → IsStrictlyIncreasing alive → IsLineList boxes gutters height alive lines → All (λ line. IsStrictlyIncreasing line.members) lines
-members_rise boxes gutters height alive [] rising are = All-nil MembersRise
-members_rise boxes gutters height alive (line ∷ lines) rising are =
+pub members_rise : (boxes gutters : List Rect) (height median : ℕ) (alive : List ℕ) (lines : List Line) → IsStrictlyIncreasing alive → IsLineList boxes gutters height median alive lines → All (λ line. IsStrictlyIncreasing line.members) lines
+members_rise boxes gutters height median alive [] rising are = All-nil MembersRise
+members_rise boxes gutters height median alive (line ∷ lines) rising are =
     let best = are.0 in
     All-cons MembersRise line lines
-    (subst (λ (xs : List ℕ). IsStrictlyIncreasing xs) (sym best.members) (IsStrictlyIncreasing-filter (λ position. is_of line.slope line.offset gutters best.admissible.scored.in_column (slice_get boxes position)) alive rising))
-    (members_rise boxes gutters height (without line.members alive) lines
+    (subst (λ (xs : List ℕ). IsStrictlyIncreasing xs) (sym best.members) (IsStrictlyIncreasing-filter (λ position. is_of line.slope line.offset line.depth gutters best.admissible.scored.in_column (slice_get boxes position)) alive rising))
+    (members_rise boxes gutters height median (without line.members alive) lines
     (IsStrictlyIncreasing-filter (λ position. not (list_any (λ member. member == position) line.members)) alive rising) are.1)

@@ -48,22 +48,22 @@ best_of weigh (suc n) =
     })
     (cases_lt best.score (weigh (suc n)))
 
-module _ (slope offset : ℤ) (boxes gutters : List Rect) (alive : List ℕ) where
-  few_columns : (in_column : ℕ) (o : Option Rect) → is_of slope offset gutters in_column o ≡ true → in_column ≤ length gutters
+module _ (slope offset : ℤ) (depth : ℕ) (boxes gutters : List Rect) (alive : List ℕ) where
+  few_columns : (in_column : ℕ) (o : Option Rect) → is_of slope offset depth gutters in_column o ≡ true → in_column ≤ length gutters
   few_columns in_column (Some r) is =
       omega (arith, in_its_column _ in_column _ is, count_by-le-length (λ (gutter : Rect). is_crossed slope offset gutter && leb (middle_of gutter) (middle_of r)) gutters)
   few_columns in_column None is = absurd (let no : false ≡ true = is in cc)
 
   -- no box is in a column behind all gutters
-  none_behind : (in_column : ℕ) → length gutters < in_column → group_weight slope offset boxes gutters in_column alive ≡ 0
+  none_behind : (in_column : ℕ) → length gutters < in_column → group_weight slope offset depth boxes gutters in_column alive ≡ 0
   none_behind in_column behind = ⊎_elim
       (λ found. absurd (omega (arith, few_columns in_column (slice_get boxes found.0) found.1, behind)))
       (λ none. none)
-      (first_or_none (λ position. is_of slope offset gutters in_column (slice_get boxes position)) (λ position. weight_of slope offset (slice_get boxes position)) alive)
+      (first_or_none (λ position. is_of slope offset depth gutters in_column (slice_get boxes position)) (λ position. weight_of slope offset depth (slice_get boxes position)) alive)
 
-  pub score_exists : (score : ℕ) × (in_column : ℕ) × IsScore slope offset boxes gutters alive score in_column
+  pub score_exists : (score : ℕ) × (in_column : ℕ) × IsScore slope offset depth boxes gutters alive score in_column
   score_exists =
-      let best = best_of (λ in_column. group_weight slope offset boxes gutters in_column alive) (length gutters) in (
+      let best = best_of (λ in_column. group_weight slope offset depth boxes gutters in_column alive) (length gutters) in (
         best.score,
         best.in_column,
         record {

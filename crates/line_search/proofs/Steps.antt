@@ -1,6 +1,6 @@
 -- The root of the grid, and its steps.
 use Rattle.std.proofs.Common.{◌≡◌, ℕ, ◌-◌, ◌*◌, ◌<◌, ◌≤◌, min, ℤ, pos, negsuc, ◌-ℤ◌, ◌≤ℤ◌, ◌<ℤ◌, arith, refl, sym, subst, List, [], ◌∷◌, ◌++◌, length, Option, Some, None, true, false, is_some, IfSome, IfNone, All, Any, map, cond, ◌⊎◌, ⊎_elim, inl, inr}
-use Rattle.std.proofs.Math.Nat.{mul-lt-mul_of_pos_right, mul-lt-mul_of_pos_left}
+use Rattle.std.proofs.Math.Nat.{mul-lt-mul_of_pos_right, mul-lt-mul_of_pos_left, mul-pos}
 use Rattle.std.proofs.lemmas.Int.{ints, by_lt_z}
 use Rattle.std.proofs.lemmas.List.Elements.{All-nil, All-cons}
 use Rattle.std.specs.Option.{option_to_list}
@@ -11,12 +11,13 @@ use Rattle.box_search.specs.Search.{IsRoot, Settles, Splits}
 use Rattle.box_search.specs.Shapes.{size, range_length, at_least_zero}
 use Rattle.line_quality.specs.Keys.{line_key}
 use Rattle.line_search.specs.declared.span.Span.{Span}
+use Rattle.line_search.specs.Lines.{deepest}
 use Rattle.line_search.specs.Problem.{GridProblem, grid_numbers, HasScore, HasPointOfKey, IsGridKey}
 use Rattle.line_search.specs.ProblemLaws.{same_grid_problem}
-use Rattle.line_search.specs.Shapes.{IsInside, PointLiesIn, IsInGrid, IsSingle, whole_grid}
+use Rattle.line_search.specs.Shapes.{IsInside, PointLiesIn, IsInGrid, IsSingle, whole_grid, least_depth}
 use Rattle.line_search.specs.Bounds.{IsOver, HasWeighing, IsGridNode, FitsGrid}
 use Rattle.line_search.specs.Parts.{half, AreHalves, HasNoPoint, IsGridSplit, IsPointAdmissible}
-use Rattle.line_search.specs.GridLaws.{admitted_here, offset_in}
+use Rattle.line_search.specs.GridLaws.{admitted_here, of_grid}
 use Rattle.line_search.proofs.Heights.{HasCorners}
 use Rattle.line_search.proofs.Bounding.{none_below, lesser_bound, first_inside}
 use Rattle.line_search.proofs.Reaching.{part_reaching}
@@ -29,38 +30,44 @@ GridNode = Node Span
 fits_here : (problem : GridProblem) (node : GridNode) → FitsGrid (grid_numbers problem) node → IsGridNode node problem
 fits_here problem node fits = of_numbers grid_numbers same_grid_problem (IsGridNode node) problem fits
 
-lies : (problem : GridProblem) (shape : Shape) (slope offset : ℤ) (score key : ℕ) → problem.height ≤ 8192 → HasScore problem slope offset score → line_key score slope offset ≡ key → IsInside slope offset shape → PointLiesIn key shape
-lies problem shape slope offset score key high scored is inside = record {
-  score = score;
-  slope = slope;
-  offset = offset;
-  slope_in = scored.point.slope_in;
-  offset_in = offset_in problem slope offset scored.point high;
-  has_key = is;
-  inside = inside;
-}
+lies : (problem : GridProblem) (shape : Shape) (slope offset : ℤ) (depth score key : ℕ) → problem.height ≤ 8192 → HasScore problem slope offset depth score → line_key score slope offset depth ≡ key → IsInside slope offset depth shape → PointLiesIn key shape
+lies problem shape slope offset depth score key high scored is inside =
+    let on = of_grid problem score slope offset depth scored.point high in
+    record {
+      score = score;
+      slope = slope;
+      offset = offset;
+      depth = depth;
+      slope_in = on.slope_in;
+      offset_in = on.offset_in;
+      depth_in = on.depth_in;
+      has_key = is;
+      inside = inside;
+    }
 
-pub root_is : (problem : GridProblem) (node : GridNode) → node.shape ≡ whole_grid problem.height → problem.height ≤ 8192 → IsGridNode node problem → IsRoot (IsGridKey (grid_numbers problem)) PointLiesIn (FitsGrid (grid_numbers problem)) node
+pub root_is : (problem : GridProblem) (node : GridNode) → node.shape ≡ whole_grid problem.height (deepest problem.median) → problem.height ≤ 8192 → IsGridNode node problem → IsRoot (IsGridKey (grid_numbers problem)) PointLiesIn (FitsGrid (grid_numbers problem)) node
 root_is problem node whole high fit = record {
   fitting = on_numbers grid_numbers (IsGridNode node) problem fit;
   covering = λ key admitted.
       let found = admitted_here problem (grid_numbers problem) key refl admitted in
       let point = found.admissible.scored.point in
-      lies problem node.shape found.slope found.offset found.score key high found.admissible.scored found.has_key (rw whole (record {
+      lies problem node.shape found.slope found.offset found.depth found.score key high found.admissible.scored found.has_key (rw whole (record {
         from_slope = point.slope_in.low;
         to_slope = omega (arith, ints, point.slope_in.high);
         from_offset = point.low;
         to_offset = omega (arith, ints, point.high);
+        from_depth = omega (arith, ints);
+        to_depth = omega (arith, ints, point.shallow);
       }));
 }
 
-enough : (score : ℕ) (slope offset : ℤ) (key : ℕ) → line_key score slope offset ≡ key → 503316480 ≤ key → 60 ≤ score
-enough score slope offset key is large = omega arith
+enough : (score : ℕ) (slope offset : ℤ) (depth : ℕ) (key : ℕ) → line_key score slope offset depth ≡ key → 32212254720 ≤ key → 60 ≤ score
+enough score slope offset depth key is large = omega arith
 
-few : (score : ℕ) (slope offset : ℤ) (key : ℕ) → line_key score slope offset ≡ key → key < 503316480 → 60 ≤ score → ⊥
-few score slope offset key is small some = omega arith
+few : (score : ℕ) (slope offset : ℤ) (depth : ℕ) (key : ℕ) → line_key score slope offset depth ≡ key → key < 32212254720 → 60 ≤ score → ⊥
+few score slope offset depth key is small some = omega arith
 
-pub settles_is : (problem : GridProblem) (node : GridNode) → FitsGrid (grid_numbers problem) node → IsSingle node.shape → 503316480 ≤ node.bound → Settles (IsGridKey (grid_numbers problem)) PointLiesIn (FitsGrid (grid_numbers problem)) node node.bound
+pub settles_is : (problem : GridProblem) (node : GridNode) → FitsGrid (grid_numbers problem) node → IsSingle node.shape → 32212254720 ≤ node.bound → Settles (IsGridKey (grid_numbers problem)) PointLiesIn (FitsGrid (grid_numbers problem)) node node.bound
 settles_is problem node fits single large =
     let at = fits_here problem node fits in
     let key = at.bounded.single single in
@@ -68,27 +75,28 @@ settles_is problem node fits single large =
       admitted = on_numbers grid_numbers (HasPointOfKey node.bound) problem (record {
         slope = node.shape.a0;
         offset = node.shape.b0;
+        depth = least_depth node.shape;
         score = key.0;
         has_key = key.2;
-        admissible = record { scored = key.1; enough = enough key.0 node.shape.a0 node.shape.b0 node.bound key.2 large };
+        admissible = record { scored = key.1; enough = enough key.0 node.shape.a0 node.shape.b0 (least_depth node.shape) node.bound key.2 large };
       });
-      inside = lies problem node.shape node.shape.a0 node.shape.b0 key.0 node.bound at.in_grid.page key.1 key.2 (first_inside problem.height node.shape at.in_grid);
+      inside = lies problem node.shape node.shape.a0 node.shape.b0 (least_depth node.shape) key.0 node.bound at.in_grid.page key.1 key.2 (first_inside problem.height (deepest problem.median) node.shape at.in_grid);
       is_bound = refl;
     }
 
-pub settled_score : (problem : GridProblem) (node : GridNode) → FitsGrid (grid_numbers problem) node → IsSingle node.shape → 503316480 ≤ node.bound → (score : ℕ) × IsPointAdmissible problem node.shape score
+pub settled_score : (problem : GridProblem) (node : GridNode) → FitsGrid (grid_numbers problem) node → IsSingle node.shape → 32212254720 ≤ node.bound → (score : ℕ) × IsPointAdmissible problem node.shape score
 settled_score problem node fits single large =
     let at = fits_here problem node fits in
     let key = at.bounded.single single in
-    (key.0, record { scored = key.1; enough = enough key.0 node.shape.a0 node.shape.b0 node.bound key.2 large })
+    (key.0, record { scored = key.1; enough = enough key.0 node.shape.a0 node.shape.b0 (least_depth node.shape) node.bound key.2 large })
 
-pub no_score : (problem : GridProblem) (node : GridNode) → FitsGrid (grid_numbers problem) node → node.bound < 503316480 → (score : ℕ) → IsPointAdmissible problem node.shape score → ⊥
+pub no_score : (problem : GridProblem) (node : GridNode) → FitsGrid (grid_numbers problem) node → node.bound < 32212254720 → (score : ℕ) → IsPointAdmissible problem node.shape score → ⊥
 no_score problem node fits small score point =
     let at = fits_here problem node fits in
-    let under = at.bounded.over node.shape.a0 node.shape.b0 score point.scored (first_inside problem.height node.shape at.in_grid) in
-    few score node.shape.a0 node.shape.b0 (line_key score node.shape.a0 node.shape.b0) refl (omega (arith, under)) point.enough
+    let under = at.bounded.over node.shape.a0 node.shape.b0 (least_depth node.shape) score point.scored (first_inside problem.height (deepest problem.median) node.shape at.in_grid) in
+    few score node.shape.a0 node.shape.b0 (least_depth node.shape) (line_key score node.shape.a0 node.shape.b0 (least_depth node.shape)) refl (omega (arith, under)) point.enough
 
-pub nothing_is : (problem : GridProblem) (node : GridNode) → FitsGrid (grid_numbers problem) node → node.bound < 503316480 → Splits (IsGridKey (grid_numbers problem)) PointLiesIn (FitsGrid (grid_numbers problem)) node []
+pub nothing_is : (problem : GridProblem) (node : GridNode) → FitsGrid (grid_numbers problem) node → node.bound < 32212254720 → Splits (IsGridKey (grid_numbers problem)) PointLiesIn (FitsGrid (grid_numbers problem)) node []
 nothing_is problem node fits small =
     let at = fits_here problem node fits in
     record {
@@ -115,115 +123,189 @@ product_a x y b c less hb hc = mul-lt-mul_of_pos_right (mul-lt-mul_of_pos_right 
 product_b : (x y a c : ℕ) → x < y → 0 < a → 0 < c → a * x * c < a * y * c
 product_b x y a c less ha hc = mul-lt-mul_of_pos_right (mul-lt-mul_of_pos_left less ha) hc
 
+product_c : (x y a b : ℕ) → x < y → 0 < a → 0 < b → a * b * x < a * b * y
+product_c x y a b less ha hb = mul-lt-mul_of_pos_left less (mul-pos ha hb)
+
 -- a part of a shape lies in the grid, is smaller, and has points of the shape only
-pub record IsPartOf (height : ℕ) (shape part : Shape) : Type 0 where
-  pub in_grid : IsInGrid height part
+pub record IsPartOf (height deep : ℕ) (shape part : Shape) : Type 0 where
+  pub in_grid : IsInGrid height deep part
   pub smaller : size part < size shape
-  pub inside : (slope offset : ℤ) → IsInside slope offset part → IsInside slope offset shape
+  pub inside : (slope offset : ℤ) (depth : ℕ) → IsInside slope offset depth part → IsInside slope offset depth shape
+  pub least : shape.c0 ≤ℤ part.c0
+  pub most : (part.c1 -ℤ pos 1) ≤ℤ (shape.c1 -ℤ pos 1)
 
 -- its corners lie in the shape
-corners_of : (height : ℕ) (shape part : Shape) → IsPartOf height shape part → HasCorners shape part
-corners_of height shape part is = record {
-  first = is.inside part.a0 part.b0 (first_inside height part is.in_grid);
-  last = is.inside (part.a1 -ℤ pos 1) (part.b1 -ℤ pos 1) (record {
-    from_slope = omega (arith, ints, is.in_grid.some_slope);
-    to_slope = omega (arith, ints);
-    from_offset = omega (arith, ints, is.in_grid.some_offset);
-    to_offset = omega (arith, ints);
-  });
-}
+corners_of : (height deep : ℕ) (shape part : Shape) → IsPartOf height deep shape part → HasCorners shape part
+corners_of height deep shape part is =
+    let first = first_inside height deep part is.in_grid in
+    record {
+      first = is.inside part.a0 part.b0 (least_depth part) first;
+      last = is.inside (part.a1 -ℤ pos 1) (part.b1 -ℤ pos 1) (least_depth part) (record {
+        from_slope = omega (arith, ints, is.in_grid.some_slope);
+        to_slope = omega (arith, ints);
+        from_offset = omega (arith, ints, is.in_grid.some_offset);
+        to_offset = omega (arith, ints);
+        from_depth = first.from_depth;
+        to_depth = first.to_depth;
+      });
+      least = is.least;
+      most = is.most;
+    }
 
-slopes_part : (height : ℕ) (shape : Shape) → IsInGrid height shape → (low high : ℤ) → shape.a0 ≤ℤ low → high ≤ℤ shape.a1 → (shape.a0 <ℤ low) ⊎ (high <ℤ shape.a1) → low <ℤ high → IsPartOf height shape (record shape { a0 = low; a1 = high })
-unfolding size
-slopes_part height shape grid low high from to less some = record {
-  in_grid = record {
-    page = grid.page;
-    from_slope = omega (arith, ints, grid.from_slope);
-    some_slope = some;
-    to_slope = omega (arith, ints, grid.to_slope);
-    from_offset = grid.from_offset;
-    some_offset = grid.some_offset;
-    to_offset = grid.to_offset;
-    from_third = grid.from_third;
-    to_third = grid.to_third;
-  };
-  smaller = product_a (range_length low high) (range_length shape.a0 shape.a1) (range_length shape.b0 shape.b1) (range_length shape.c0 shape.c1) (shorter shape.a0 shape.a1 low high from to less some) (some_length shape.b0 shape.b1 grid.some_offset) (rw (grid.from_third, grid.to_third) (omega arith));
-  inside = λ slope offset within. record {
-    from_slope = omega (arith, ints, within.from_slope);
-    to_slope = omega (arith, ints, within.to_slope);
-    from_offset = within.from_offset;
-    to_offset = within.to_offset;
-  };
-}
+module _ (height deep : ℕ) (shape : Shape) (grid : IsInGrid height deep shape) (low high : ℤ) (some : low <ℤ high) where
+  slopes_part : shape.a0 ≤ℤ low → high ≤ℤ shape.a1 → (shape.a0 <ℤ low) ⊎ (high <ℤ shape.a1) → IsPartOf height deep shape (record shape { a0 = low; a1 = high })
+  unfolding size
+  slopes_part from to less = record {
+    in_grid = record {
+      page = grid.page;
+      depths = grid.depths;
+      from_slope = omega (arith, ints, grid.from_slope);
+      some_slope = some;
+      to_slope = omega (arith, ints, grid.to_slope);
+      from_offset = grid.from_offset;
+      some_offset = grid.some_offset;
+      to_offset = grid.to_offset;
+      from_depth = grid.from_depth;
+      some_depth = grid.some_depth;
+      to_depth = grid.to_depth;
+    };
+    smaller = product_a (range_length low high) (range_length shape.a0 shape.a1) (range_length shape.b0 shape.b1) (range_length shape.c0 shape.c1) (shorter shape.a0 shape.a1 low high from to less some) (some_length shape.b0 shape.b1 grid.some_offset) (some_length shape.c0 shape.c1 grid.some_depth);
+    inside = λ slope offset depth within. record {
+      from_slope = omega (arith, ints, within.from_slope);
+      to_slope = omega (arith, ints, within.to_slope);
+      from_offset = within.from_offset;
+      to_offset = within.to_offset;
+      from_depth = within.from_depth;
+      to_depth = within.to_depth;
+    };
+    least = omega (arith, ints);
+    most = omega (arith, ints);
+  }
 
-offsets_part : (height : ℕ) (shape : Shape) → IsInGrid height shape → (low high : ℤ) → shape.b0 ≤ℤ low → high ≤ℤ shape.b1 → (shape.b0 <ℤ low) ⊎ (high <ℤ shape.b1) → low <ℤ high → IsPartOf height shape (record shape { b0 = low; b1 = high })
-unfolding size
-offsets_part height shape grid low high from to less some = record {
-  in_grid = record {
-    page = grid.page;
-    from_slope = grid.from_slope;
-    some_slope = grid.some_slope;
-    to_slope = grid.to_slope;
-    from_offset = omega (arith, ints, grid.from_offset);
-    some_offset = some;
-    to_offset = omega (arith, ints, grid.to_offset);
-    from_third = grid.from_third;
-    to_third = grid.to_third;
-  };
-  smaller = product_b (range_length low high) (range_length shape.b0 shape.b1) (range_length shape.a0 shape.a1) (range_length shape.c0 shape.c1) (shorter shape.b0 shape.b1 low high from to less some) (some_length shape.a0 shape.a1 grid.some_slope) (rw (grid.from_third, grid.to_third) (omega arith));
-  inside = λ slope offset within. record {
-    from_slope = within.from_slope;
-    to_slope = within.to_slope;
-    from_offset = omega (arith, ints, within.from_offset);
-    to_offset = omega (arith, ints, within.to_offset);
-  };
-}
+  offsets_part : shape.b0 ≤ℤ low → high ≤ℤ shape.b1 → (shape.b0 <ℤ low) ⊎ (high <ℤ shape.b1) → IsPartOf height deep shape (record shape { b0 = low; b1 = high })
+  unfolding size
+  offsets_part from to less = record {
+    in_grid = record {
+      page = grid.page;
+      depths = grid.depths;
+      from_slope = grid.from_slope;
+      some_slope = grid.some_slope;
+      to_slope = grid.to_slope;
+      from_offset = omega (arith, ints, grid.from_offset);
+      some_offset = some;
+      to_offset = omega (arith, ints, grid.to_offset);
+      from_depth = grid.from_depth;
+      some_depth = grid.some_depth;
+      to_depth = grid.to_depth;
+    };
+    smaller = product_b (range_length low high) (range_length shape.b0 shape.b1) (range_length shape.a0 shape.a1) (range_length shape.c0 shape.c1) (shorter shape.b0 shape.b1 low high from to less some) (some_length shape.a0 shape.a1 grid.some_slope) (some_length shape.c0 shape.c1 grid.some_depth);
+    inside = λ slope offset depth within. record {
+      from_slope = within.from_slope;
+      to_slope = within.to_slope;
+      from_offset = omega (arith, ints, within.from_offset);
+      to_offset = omega (arith, ints, within.to_offset);
+      from_depth = within.from_depth;
+      to_depth = within.to_depth;
+    };
+    least = omega (arith, ints);
+    most = omega (arith, ints);
+  }
 
-halves_are : (height : ℕ) (shape lower upper : Shape) → IsInGrid height shape → AreHalves shape lower upper → IsPartOf height shape lower × IsPartOf height shape upper
-halves_are height shape lower upper grid (inl (long, is_lower, is_upper)) =
-    let middle = half_inside shape.a0 shape.a1 long in (
-      rw is_lower (slopes_part height shape grid shape.a0 (half shape.a0 shape.a1) (omega (arith, ints)) (omega (arith, ints, middle)) (inr middle.1) middle.0),
-      rw is_upper (slopes_part height shape grid (half shape.a0 shape.a1) shape.a1 (omega (arith, ints, middle)) (omega (arith, ints)) (inl middle.0) middle.1),
+  depths_part : shape.c0 ≤ℤ low → high ≤ℤ shape.c1 → (shape.c0 <ℤ low) ⊎ (high <ℤ shape.c1) → IsPartOf height deep shape (record shape { c0 = low; c1 = high })
+  unfolding size
+  depths_part from to less = record {
+    in_grid = record {
+      page = grid.page;
+      depths = grid.depths;
+      from_slope = grid.from_slope;
+      some_slope = grid.some_slope;
+      to_slope = grid.to_slope;
+      from_offset = grid.from_offset;
+      some_offset = grid.some_offset;
+      to_offset = grid.to_offset;
+      from_depth = omega (arith, ints, grid.from_depth);
+      some_depth = some;
+      to_depth = omega (arith, ints, grid.to_depth);
+    };
+    smaller = product_c (range_length low high) (range_length shape.c0 shape.c1) (range_length shape.a0 shape.a1) (range_length shape.b0 shape.b1) (shorter shape.c0 shape.c1 low high from to less some) (some_length shape.a0 shape.a1 grid.some_slope) (some_length shape.b0 shape.b1 grid.some_offset);
+    inside = λ slope offset depth within. record {
+      from_slope = within.from_slope;
+      to_slope = within.to_slope;
+      from_offset = within.from_offset;
+      to_offset = within.to_offset;
+      from_depth = omega (arith, ints, within.from_depth);
+      to_depth = omega (arith, ints, within.to_depth);
+    };
+    least = from;
+    most = omega (arith, ints);
+  }
+
+halves_are : (height deep : ℕ) (shape lower upper : Shape) → IsInGrid height deep shape → AreHalves shape lower upper → IsPartOf height deep shape lower × IsPartOf height deep shape upper
+halves_are height deep shape lower upper grid (inl (long, is_lower, is_upper)) =
+    let middle = half_inside shape.a0 shape.a1 long in
+    let at : ℤ = half shape.a0 shape.a1 in (
+      rw is_lower (slopes_part height deep shape grid shape.a0 at middle.0 (omega (arith, ints)) (omega (arith, ints, middle)) (inr middle.1)),
+      rw is_upper (slopes_part height deep shape grid at shape.a1 middle.1 (omega (arith, ints, middle)) (omega (arith, ints)) (inl middle.0)),
     )
-halves_are height shape lower upper grid (inr (long, is_lower, is_upper)) =
-    let middle = half_inside shape.b0 shape.b1 long in (
-      rw is_lower (offsets_part height shape grid shape.b0 (half shape.b0 shape.b1) (omega (arith, ints)) (omega (arith, ints, middle)) (inr middle.1) middle.0),
-      rw is_upper (offsets_part height shape grid (half shape.b0 shape.b1) shape.b1 (omega (arith, ints, middle)) (omega (arith, ints)) (inl middle.0) middle.1),
+halves_are height deep shape lower upper grid (inr (inl (long, is_lower, is_upper))) =
+    let middle = half_inside shape.b0 shape.b1 long in
+    let at : ℤ = half shape.b0 shape.b1 in (
+      rw is_lower (offsets_part height deep shape grid shape.b0 at middle.0 (omega (arith, ints)) (omega (arith, ints, middle)) (inr middle.1)),
+      rw is_upper (offsets_part height deep shape grid at shape.b1 middle.1 (omega (arith, ints, middle)) (omega (arith, ints)) (inl middle.0)),
+    )
+halves_are height deep shape lower upper grid (inr (inr (long, is_lower, is_upper))) =
+    let middle = half_inside shape.c0 shape.c1 long in
+    let at : ℤ = half shape.c0 shape.c1 in (
+      rw is_lower (depths_part height deep shape grid shape.c0 at middle.0 (omega (arith, ints)) (omega (arith, ints, middle)) (inr middle.1)),
+      rw is_upper (depths_part height deep shape grid at shape.c1 middle.1 (omega (arith, ints, middle)) (omega (arith, ints)) (inl middle.0)),
     )
 
-inside_half : (shape lower upper : Shape) → AreHalves shape lower upper → (slope offset : ℤ) → IsInside slope offset shape → IsInside slope offset lower ⊎ IsInside slope offset upper
-inside_half shape lower upper (inl (long, is_lower, is_upper)) slope offset within =
+inside_half : (shape lower upper : Shape) → AreHalves shape lower upper → (slope offset : ℤ) (depth : ℕ) → IsInside slope offset depth shape → IsInside slope offset depth lower ⊎ IsInside slope offset depth upper
+inside_half shape lower upper (inl (long, is_lower, is_upper)) slope offset depth within =
     by_lt_z slope (half shape.a0 shape.a1)
-    (λ before. inl (rw is_lower (record { from_slope = within.from_slope; to_slope = before; from_offset = within.from_offset; to_offset = within.to_offset })))
-    (λ after. inr (rw is_upper (record { from_slope = after; to_slope = within.to_slope; from_offset = within.from_offset; to_offset = within.to_offset })))
-inside_half shape lower upper (inr (long, is_lower, is_upper)) slope offset within =
+    (λ before. inl (rw is_lower (record { from_slope = within.from_slope; to_slope = before; from_offset = within.from_offset; to_offset = within.to_offset; from_depth = within.from_depth; to_depth = within.to_depth })))
+    (λ after. inr (rw is_upper (record { from_slope = after; to_slope = within.to_slope; from_offset = within.from_offset; to_offset = within.to_offset; from_depth = within.from_depth; to_depth = within.to_depth })))
+inside_half shape lower upper (inr (inl (long, is_lower, is_upper))) slope offset depth within =
     by_lt_z offset (half shape.b0 shape.b1)
-    (λ before. inl (rw is_lower (record { from_slope = within.from_slope; to_slope = within.to_slope; from_offset = within.from_offset; to_offset = before })))
-    (λ after. inr (rw is_upper (record { from_slope = within.from_slope; to_slope = within.to_slope; from_offset = after; to_offset = within.to_offset })))
+    (λ before. inl (rw is_lower (record { from_slope = within.from_slope; to_slope = within.to_slope; from_offset = within.from_offset; to_offset = before; from_depth = within.from_depth; to_depth = within.to_depth })))
+    (λ after. inr (rw is_upper (record { from_slope = within.from_slope; to_slope = within.to_slope; from_offset = after; to_offset = within.to_offset; from_depth = within.from_depth; to_depth = within.to_depth })))
+inside_half shape lower upper (inr (inr (long, is_lower, is_upper))) slope offset depth within =
+    by_lt_z (pos depth) (half shape.c0 shape.c1)
+    (λ before. inl (rw is_lower (record { from_slope = within.from_slope; to_slope = within.to_slope; from_offset = within.from_offset; to_offset = within.to_offset; from_depth = within.from_depth; to_depth = before })))
+    (λ after. inr (rw is_upper (record { from_slope = within.from_slope; to_slope = within.to_slope; from_offset = within.from_offset; to_offset = within.to_offset; from_depth = after; to_depth = within.to_depth })))
 
 lies_half : (shape lower upper : Shape) → AreHalves shape lower upper → (key : ℕ) → PointLiesIn key shape → PointLiesIn key lower ⊎ PointLiesIn key upper
-lies_half shape lower upper halves key at = ⊎_elim
-    (λ inside. inl (record { score = at.score; slope = at.slope; offset = at.offset; slope_in = at.slope_in; offset_in = at.offset_in; has_key = at.has_key; inside = inside }))
-    (λ inside. inr (record { score = at.score; slope = at.slope; offset = at.offset; slope_in = at.slope_in; offset_in = at.offset_in; has_key = at.has_key; inside = inside }))
-    (inside_half shape lower upper halves at.slope at.offset at.inside)
+lies_half shape lower upper halves key at =
+    let here : (part : Shape) → IsInside at.slope at.offset at.depth part → PointLiesIn key part = λ part inside. record {
+      score = at.score;
+      slope = at.slope;
+      offset = at.offset;
+      depth = at.depth;
+      slope_in = at.slope_in;
+      offset_in = at.offset_in;
+      depth_in = at.depth_in;
+      has_key = at.has_key;
+      inside = inside;
+    } in
+    ⊎_elim (λ inside. inl (here lower inside)) (λ inside. inr (here upper inside)) (inside_half shape lower upper halves at.slope at.offset at.depth at.inside)
 
 -- what a node hands on to a part
 pub record IsHandedOn (problem : GridProblem) (node : GridNode) (part : Shape) : Type 0 where
-  pub in_grid : IsInGrid problem.height part
+  pub in_grid : IsInGrid problem.height (deepest problem.median) part
   pub over : IsOver problem part node.bound
   pub weighing : HasWeighing problem part node.work
 
-handed : (problem : GridProblem) (node : GridNode) (part : Shape) → IsGridNode node problem → IsPartOf problem.height node.shape part → IsHandedOn problem node part
+handed : (problem : GridProblem) (node : GridNode) (part : Shape) → IsGridNode node problem → IsPartOf problem.height (deepest problem.median) node.shape part → IsHandedOn problem node part
 handed problem node part fit is = record {
   in_grid = is.in_grid;
-  over = λ slope offset score scored inside. fit.bounded.over slope offset score scored (is.inside slope offset inside);
-  weighing = part_reaching problem node.shape part (corners_of problem.height node.shape part is) node.work fit.near;
+  over = λ slope offset depth score scored inside. fit.bounded.over slope offset depth score scored (is.inside slope offset depth inside);
+  weighing = part_reaching problem node.shape part (corners_of problem.height (deepest problem.median) node.shape part is) node.work fit.near;
 }
 
 pub handed_on : (problem : GridProblem) (node : GridNode) (lower upper : Shape) → FitsGrid (grid_numbers problem) node → AreHalves node.shape lower upper → IsHandedOn problem node lower × IsHandedOn problem node upper
 handed_on problem node lower upper fits halves =
     let fit = fits_here problem node fits in
-    let parts = halves_are problem.height node.shape lower upper fit.in_grid halves in
+    let parts = halves_are problem.height (deepest problem.median) node.shape lower upper fit.in_grid halves in
     (handed problem node lower fit parts.0, handed problem node upper fit parts.1)
 
 -- a node keeps the lesser of its bound and another one
@@ -235,7 +317,7 @@ limited problem node shape limit bound fit same over is = record {
 }
 
 -- and has no admissible point where that is small
-pub too_low : (problem : GridProblem) (node : GridNode) (shape : Shape) (limit bound : ℕ) → IsGridNode node problem → node.shape ≡ shape → IsOver problem shape limit → bound ≡ min node.bound limit → bound < 503316480 → HasNoPoint problem shape
+pub too_low : (problem : GridProblem) (node : GridNode) (shape : Shape) (limit bound : ℕ) → IsGridNode node problem → node.shape ≡ shape → IsOver problem shape limit → bound ≡ min node.bound limit → bound < 32212254720 → HasNoPoint problem shape
 too_low problem node shape limit bound fit same over is small =
     subst (λ (s : Shape). HasNoPoint problem s) same
     (none_below problem node.shape node.bound limit fit.in_grid fit.bounded.over (subst (λ (s : Shape). IsOver problem s limit) (sym same) over) (omega (arith, is, small)))
@@ -280,7 +362,7 @@ none_then P Q None h f = f h
 pub splits_is : (problem : GridProblem) (node : GridNode) (lower upper : Shape) (p q : Option GridNode) → FitsGrid (grid_numbers problem) node → AreHalves node.shape lower upper → IsKeptHalf problem lower node.bound p → IsKeptHalf problem upper node.bound q → Splits (IsGridKey (grid_numbers problem)) PointLiesIn (FitsGrid (grid_numbers problem)) node (option_to_list p ++ option_to_list q)
 splits_is problem node lower upper p q fits halves kept_lower kept_upper =
     let at = fits_here problem node fits in
-    let parts = halves_are problem.height node.shape lower upper at.in_grid halves in
+    let parts = halves_are problem.height (deepest problem.median) node.shape lower upper at.in_grid halves in
     let Fits : GridNode → Type 0 = λ part. IsGridNode part problem in
     let Within : GridNode → Type 0 = λ part. FitsGrid (grid_numbers problem) part in
     let IsLower : GridNode → Type 0 = λ part. part.shape ≡ lower in

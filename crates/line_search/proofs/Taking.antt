@@ -10,40 +10,40 @@ use Rattle.std.specs.List.{filter, sum_by, list_any}
 use Rattle.layout_geom.specs.declared.rect.Rect.{Rect}
 use Rattle.box_search.specs.Problems.{on_numbers}
 use Rattle.box_search.specs.Search.{IsGreatestKey}
-use Rattle.line_quality.specs.Points.{IsSlope, IsOffset}
 use Rattle.line_quality.specs.Scores.{IsScore, group_of, is_of, weight_of}
 use Rattle.line_quality.specs.ScoreLaws.{same_score}
-use Rattle.line_quality.specs.Keys.{line_key, IsLineKey}
+use Rattle.line_quality.specs.Keys.{line_key, Scored, scored, IsOfGrid, key_of, IsLineKey}
 use Rattle.line_search.specs.declared.line.Line.{Line}
 use Rattle.line_search.specs.declared.members.Winner.{Winner}
 use Rattle.line_search.specs.declared.members.Division.{Division}
 use Rattle.line_search.specs.Lines.{IsPoint, IsAdmissiblePoint, IsBestLine, IsLeastRound, HasNoLine, IsLineList, without}
 use Rattle.line_search.specs.Problem.{GridProblem, grid_numbers, HasPointOfKey, IsGridKey, IsWithinLimits}
 use Rattle.line_search.specs.Taken.{IsTaken}
-use Rattle.line_search.specs.GridLaws.{admitted_here, offset_in}
+use Rattle.line_search.specs.GridLaws.{admitted_here, of_grid}
 
 -- the key is the answer for the problem
 abbrev pub IsGridAnswer : GridProblem → ℕ → Type 0
 IsGridAnswer problem key = IsGreatestKey (IsGridKey (grid_numbers problem)) key
 
 -- the admissible points of the problem, its best line, and that it has none
-abbrev pub IsAdmissibleIn : GridProblem → ℤ → ℤ → ℕ → Type 0
-IsAdmissibleIn problem slope offset score = IsAdmissiblePoint problem.boxes problem.gutters problem.height problem.alive slope offset score
+abbrev pub IsAdmissibleIn : GridProblem → ℤ → ℤ → ℕ → ℕ → Type 0
+IsAdmissibleIn problem slope offset depth score =
+    IsAdmissiblePoint problem.boxes problem.gutters problem.height problem.median problem.alive slope offset depth score
 
 abbrev pub IsBestIn : GridProblem → Line → Type 0
-IsBestIn problem line = IsBestLine problem.boxes problem.gutters problem.height problem.alive line
+IsBestIn problem line = IsBestLine problem.boxes problem.gutters problem.height problem.median problem.alive line
 
 abbrev pub HasNoLineIn : GridProblem → Type 0
-HasNoLineIn problem = HasNoLine problem.boxes problem.gutters problem.height problem.alive
+HasNoLineIn problem = HasNoLine problem.boxes problem.gutters problem.height problem.median problem.alive
 
--- the slope and the offset are those that the key stands for
-abbrev pub Decodes : ℕ → ℤ → ℤ → Type 0
-Decodes key s b = (score : ℕ) (slope offset : ℤ) → IsSlope slope → IsOffset offset → line_key score slope offset ≡ key → (slope ≡ s) × (offset ≡ b)
+-- the slope, the offset and the depth are those that the key stands for
+abbrev pub Decodes : ℕ → ℤ → ℤ → ℕ → Type 0
+Decodes key s b d = (line : Scored) → IsOfGrid line → key_of line ≡ key → (line.slope ≡ s) × (line.offset ≡ b) × (line.depth ≡ d)
 
-decodes_as : (key : ℕ) (s b s' b' : ℤ) → s ≡ s' → b ≡ b' → Decodes key s b → Decodes key s' b'
-decodes_as key s b s' b' same_s same_b decodes = λ score slope offset hs hb is.
-    let found = decodes score slope offset hs hb is in
-    (found.0 ∙ same_s, found.1 ∙ same_b)
+decodes_as : (key : ℕ) (s b s' b' : ℤ) (d d' : ℕ) → s ≡ s' → b ≡ b' → d ≡ d' → Decodes key s b d → Decodes key s' b' d'
+decodes_as key s b s' b' d d' same_s same_b same_d decodes = λ line of_grid is.
+    let found = decodes line of_grid is in
+    (found.0 ∙ same_s, found.1 ∙ same_b, found.2 ∙ same_d)
 
 found_at : (problem : GridProblem) (key : ℕ) → IsGridAnswer problem key → 0 < key → HasPointOfKey key problem
 found_at problem key answer some = ⊎_elim
@@ -51,58 +51,69 @@ found_at problem key answer some = ⊎_elim
     (λ (admitted : IsGridKey (grid_numbers problem) key). admitted_here problem (grid_numbers problem) key refl admitted)
     answer.sound
 
+-- the point that was found, with its score
+abbrev pub found_line : (problem : GridProblem) (key : ℕ) → HasPointOfKey key problem → Scored
+found_line problem key found = scored found.score found.slope found.offset found.depth
+
+found_of_grid : (problem : GridProblem) (key : ℕ) → problem.height ≤ 8192 → (found : HasPointOfKey key problem) → IsOfGrid (found_line problem key found)
+found_of_grid problem key high found = of_grid problem found.score found.slope found.offset found.depth found.admissible.scored.point high
+
 pub is_line_key : (problem : GridProblem) (key : ℕ) → problem.height ≤ 8192 → IsGridAnswer problem key → 0 < key → IsLineKey key
 is_line_key problem key high answer some =
     let found = found_at problem key answer some in
-    let point = found.admissible.scored.point in
-    record {
-      score = found.score;
-      slope = found.slope;
-      offset = found.offset;
-      slope_in = point.slope_in;
-      offset_in = offset_in problem found.slope found.offset point high;
-      is = found.has_key;
-    }
+    record { line = found_line problem key found; of_grid = found_of_grid problem key high found; is = found.has_key }
 
 -- the decoded point is the admitted one
-pub record IsWinner (problem : GridProblem) (key : ℕ) (s b : ℤ) (score : ℕ) : Type 0 where
-  pub point : IsPoint problem.height s b
+pub record IsWinner (problem : GridProblem) (key : ℕ) (s b : ℤ) (d score : ℕ) : Type 0 where
+  pub point : IsPoint problem.height problem.median s b d
   pub enough : 60 ≤ score
-  pub is : line_key score s b ≡ key
+  pub is : line_key score s b d ≡ key
 
-winner_is : (problem : GridProblem) (key : ℕ) → problem.height ≤ 8192 → IsGridAnswer problem key → 0 < key → (s b : ℤ) → Decodes key s b → (score in_column : ℕ) → IsScore s b problem.boxes problem.gutters problem.alive score in_column → IsWinner problem key s b score
-winner_is problem key high answer some s b decodes score in_column scored =
+-- what holds of a point holds of the same one
+same_place : (P : ℤ → ℤ → ℕ → Type 0) (s b s' b' : ℤ) (d d' : ℕ) → s ≡ s' → b ≡ b' → d ≡ d' → P s b d → P s' b' d'
+same_place P s b s' b' d d' same_s same_b same_d holds =
+    subst (λ (z : ℤ). P z b' d') same_s (subst (λ (z : ℤ). P s z d') same_b (subst (λ (n : ℕ). P s b n) same_d holds))
+
+winner_is : (problem : GridProblem) (key : ℕ) → problem.height ≤ 8192 → IsGridAnswer problem key → 0 < key → (s b : ℤ) (d : ℕ)
+    → Decodes key s b d → (score in_column : ℕ) → IsScore s b d problem.boxes problem.gutters problem.alive score in_column
+    → IsWinner problem key s b d score
+winner_is problem key high answer some s b d decodes score in_column scored =
     let found = found_at problem key answer some in
     let at = found.admissible.scored in
-    let same = decodes found.score found.slope found.offset at.point.slope_in (offset_in problem found.slope found.offset at.point high) found.has_key in
-    let point : IsPoint problem.height s b = subst (λ (z : ℤ). IsPoint problem.height z b) same.0 (subst (λ (z : ℤ). IsPoint problem.height found.slope z) same.1 at.point) in
-    let here : IsScore s b problem.boxes problem.gutters problem.alive found.score at.in_column = subst (λ (z : ℤ). IsScore z b problem.boxes problem.gutters problem.alive found.score at.in_column) same.0 (subst (λ (z : ℤ). IsScore found.slope z problem.boxes problem.gutters problem.alive found.score at.in_column) same.1 at.scored) in
-    let one : found.score ≡ score = (same_score s b problem.boxes problem.gutters problem.alive found.score score at.in_column in_column here scored).0 in
-    let key_here : line_key found.score s b ≡ key = subst (λ (z : ℤ). line_key found.score z b ≡ key) same.0 (subst (λ (z : ℤ). line_key found.score found.slope z ≡ key) same.1 found.has_key) in
+    let same = decodes (found_line problem key found) (found_of_grid problem key high found) found.has_key in
+    let point : IsPoint problem.height problem.median s b d =
+    same_place (λ z y n. IsPoint problem.height problem.median z y n) found.slope found.offset s b found.depth d same.0 same.1 same.2 at.point in
+    let here : IsScore s b d problem.boxes problem.gutters problem.alive found.score at.in_column =
+    same_place (λ z y n. IsScore z y n problem.boxes problem.gutters problem.alive found.score at.in_column) found.slope found.offset s b found.depth d same.0 same.1 same.2 at.scored in
+    let one : found.score ≡ score = (same_score s b d problem.boxes problem.gutters problem.alive found.score score at.in_column in_column here scored).0 in
+    let key_here : line_key found.score s b d ≡ key =
+    same_place (λ z y n. line_key found.score z y n ≡ key) found.slope found.offset s b found.depth d same.0 same.1 same.2 found.has_key in
     record {
       point = point;
       enough = omega (arith, one, found.admissible.enough);
-      is = subst (λ (n : ℕ). line_key n s b ≡ key) one key_here;
+      is = subst (λ (n : ℕ). line_key n s b d ≡ key) one key_here;
     }
 
-pub admits : (problem : GridProblem) (slope offset : ℤ) (score : ℕ) → IsAdmissibleIn problem slope offset score → IsGridKey (grid_numbers problem) (line_key score slope offset)
-admits problem slope offset score point =
-    on_numbers grid_numbers (HasPointOfKey (line_key score slope offset)) problem (record { slope = slope; offset = offset; score = score; has_key = refl; admissible = point })
+pub admits : (problem : GridProblem) (slope offset : ℤ) (depth score : ℕ) → IsAdmissibleIn problem slope offset depth score → IsGridKey (grid_numbers problem) (line_key score slope offset depth)
+admits problem slope offset depth score point =
+    on_numbers grid_numbers (HasPointOfKey (line_key score slope offset depth)) problem (record { slope = slope; offset = offset; depth = depth; score = score; has_key = refl; admissible = point })
 
-pub best_is : (problem : GridProblem) (key : ℕ) → IsGridAnswer problem key → (winner : Winner) (division : Division) (line : Line) → IsTaken problem key line.score winner division → line.slope ≡ winner.slope → line.offset ≡ winner.offset → line.members ≡ division.members → IsLeastRound problem.boxes line.members line.bbox → IsBestIn problem line
-best_is problem key answer winner division line taken slopes offsets members round =
-    let point : IsPoint problem.height line.slope line.offset = rw (slopes, offsets) taken.point in
-    let scored : IsScore line.slope line.offset problem.boxes problem.gutters problem.alive line.score winner.column = rw (slopes, offsets) taken.scored in
-    let has_key : line_key line.score line.slope line.offset ≡ key = rw (slopes, offsets) taken.has_key in
+pub best_is : (problem : GridProblem) (key : ℕ) → IsGridAnswer problem key → (winner : Winner) (division : Division) (line : Line)
+    → IsTaken problem key line.score winner division → line.slope ≡ winner.slope → line.offset ≡ winner.offset → line.depth ≡ winner.depth
+    → line.members ≡ division.members → IsLeastRound problem.boxes line.members line.bbox → IsBestIn problem line
+best_is problem key answer winner division line taken slopes offsets depths members round =
+    let point : IsPoint problem.height problem.median line.slope line.offset line.depth = rw (slopes, offsets, depths) taken.point in
+    let scored : IsScore line.slope line.offset line.depth problem.boxes problem.gutters problem.alive line.score winner.column = rw (slopes, offsets, depths) taken.scored in
+    let has_key : line_key line.score line.slope line.offset line.depth ≡ key = rw (slopes, offsets, depths) taken.has_key in
     record {
       admissible = record { scored = record { point = point; in_column = winner.column; scored = scored }; enough = taken.enough };
-      greatest = λ slope offset score point. omega (arith, has_key, answer.greatest (line_key score slope offset) (admits problem slope offset score point));
-      members = rw (slopes, offsets) (members ∙ taken.members);
+      greatest = λ slope offset depth score point. omega (arith, has_key, answer.greatest (line_key score slope offset depth) (admits problem slope offset depth score point));
+      members = rw (slopes, offsets, depths) (members ∙ taken.members);
       bbox = round;
     }
 
 pub no_line : (problem : GridProblem) (key : ℕ) → IsGridAnswer problem key → key ≡ 0 → HasNoLineIn problem
-no_line problem key answer zero_is = λ slope offset score point. answer.none zero_is (line_key score slope offset) (admits problem slope offset score point)
+no_line problem key answer zero_is = λ slope offset depth score point. answer.none zero_is (line_key score slope offset depth) (admits problem slope offset depth score point)
 
 some_of : (f : ℕ → ℕ) (xs : List ℕ) → 0 < sum_by f xs → 0 < length xs
 some_of f [] some = absurd (omega arith)
@@ -110,11 +121,11 @@ some_of f (x ∷ xs) some = omega arith
 
 pub members_some : (problem : GridProblem) (key score : ℕ) (winner : Winner) (division : Division) → IsTaken problem key score winner division → 0 < length division.members
 members_some problem key score winner division taken =
-    rw taken.members (some_of (λ (position : ℕ). weight_of winner.slope winner.offset (slice_get problem.boxes position)) (group_of winner.slope winner.offset problem.boxes problem.gutters winner.column problem.alive) (omega (arith, taken.scored.reached, taken.enough)))
+    rw taken.members (some_of (λ (position : ℕ). weight_of winner.slope winner.offset winner.depth (slice_get problem.boxes position)) (group_of winner.slope winner.offset winner.depth problem.boxes problem.gutters winner.column problem.alive) (omega (arith, taken.scored.reached, taken.enough)))
 
 pub members_within : (problem : GridProblem) (key score : ℕ) (winner : Winner) (division : Division) → IsTaken problem key score winner division → All (λ position. position < length problem.boxes) problem.alive → All (λ position. position < length problem.boxes) division.members
 members_within problem key score winner division taken within =
-    rw taken.members (All-filter (λ (position : ℕ). is_of winner.slope winner.offset problem.gutters winner.column (slice_get problem.boxes position)) (λ (position : ℕ). position < length problem.boxes) problem.alive within)
+    rw taken.members (All-filter (λ (position : ℕ). is_of winner.slope winner.offset winner.depth problem.gutters winner.column (slice_get problem.boxes position)) (λ (position : ℕ). position < length problem.boxes) problem.alive within)
 
 -- a test that agrees on a list keeps the same of it
 filter_agrees : (p q : ℕ → Bool) (xs : List ℕ) → All (λ x. p x ≡ q x) xs → filter p xs ≡ filter q xs
@@ -146,41 +157,42 @@ found_in xs x there =
 
 pub rest_is : (problem : GridProblem) (key score : ℕ) (winner : Winner) (division : Division) → IsTaken problem key score winner division → division.others ≡ without division.members problem.alive
 rest_is problem key score winner division taken =
-    let p : ℕ → Bool = λ position. is_of winner.slope winner.offset problem.gutters winner.column (slice_get problem.boxes position) in
+    let p : ℕ → Bool = λ position. is_of winner.slope winner.offset winner.depth problem.gutters winner.column (slice_get problem.boxes position) in
     taken.others ∙ filter_agrees (λ (position : ℕ). not (p position)) (λ (position : ℕ). not (list_any (λ member. member == position) division.members)) problem.alive
     (All-weaker (Contains problem.alive) (λ (x : ℕ). not (p x) ≡ not (list_any (λ member. member == x) division.members))
     (λ x there. ap not (rw taken.members (member_test p problem.alive x (found_in problem.alive x there)))) problem.alive (All-contains_itself problem.alive))
 
 pub fewer_are : (problem : GridProblem) (key score : ℕ) (winner : Winner) (division : Division) → IsTaken problem key score winner division → length division.others < length problem.alive
 fewer_are problem key score winner division taken =
-    let p : ℕ → Bool = λ position. is_of winner.slope winner.offset problem.gutters winner.column (slice_get problem.boxes position) in
+    let p : ℕ → Bool = λ position. is_of winner.slope winner.offset winner.depth problem.gutters winner.column (slice_get problem.boxes position) in
     let both : length (filter p problem.alive) + length (filter (λ (position : ℕ). not (p position)) problem.alive) ≡ length problem.alive = length-filter_both p (λ (position : ℕ). not (p position)) (λ _. refl) problem.alive in
     omega (arith, both, ap length taken.members, ap length taken.others, members_some problem key score winner division taken)
 
 -- the decoded numbers fit their types
-decodes_back : (problem : GridProblem) (key : ℕ) → problem.height ≤ 8192 → IsGridAnswer problem key → 0 < key → (s b : ℤ) → Decodes key s b → Decodes key (to_z w8 (of_z w8 s)) (to_z w16 (of_z w16 b))
-decodes_back problem key high greatest some s b decodes =
+decodes_back : (problem : GridProblem) (key : ℕ) → problem.height ≤ 8192 → IsGridAnswer problem key → 0 < key → (s b : ℤ) (d : ℕ)
+    → Decodes key s b d → Decodes key (to_z w8 (of_z w8 s)) (to_z w16 (of_z w16 b)) d
+decodes_back problem key high greatest some s b d decodes =
     let found = found_at problem key greatest some in
-    let point = found.admissible.scored.point in
-    let offset = offset_in problem found.slope found.offset point high in
-    let same = decodes found.score found.slope found.offset point.slope_in offset found.has_key in
-    let slope_back : s ≡ to_z w8 (of_z w8 s) = omega (arith, ints, same.0, point.slope_in.low, point.slope_in.high) in
-    let offset_back : b ≡ to_z w16 (of_z w16 b) = omega (arith, ints, same.1, offset.low, offset.high) in
-    decodes_as key s b (to_z w8 (of_z w8 s)) (to_z w16 (of_z w16 b)) slope_back offset_back decodes
+    let of_grid = found_of_grid problem key high found in
+    let same = decodes (found_line problem key found) of_grid found.has_key in
+    let slope_back : s ≡ to_z w8 (of_z w8 s) = omega (arith, ints, same.0, of_grid.slope_in.low, of_grid.slope_in.high) in
+    let offset_back : b ≡ to_z w16 (of_z w16 b) = omega (arith, ints, same.1, of_grid.offset_in.low, of_grid.offset_in.high) in
+    decodes_as key s b (to_z w8 (of_z w8 s)) (to_z w16 (of_z w16 b)) d d slope_back offset_back refl decodes
 
 -- the decoded line, with its numbers as their types hold them
-abbrev pub winner_of : ℤ → ℤ → ℕ → Winner
-winner_of s b column = record { slope = to_z w8 (of_z w8 s); offset = to_z w16 (of_z w16 b); column = column }
+abbrev pub winner_of : ℤ → ℤ → ℕ → ℕ → Winner
+winner_of s b d column = record { slope = to_z w8 (of_z w8 s); offset = to_z w16 (of_z w16 b); depth = d; column = column }
 
-pub taken_line : (problem : GridProblem) (key : ℕ) → problem.height ≤ 8192 → IsGridAnswer problem key → 0 < key → (s b : ℤ) → Decodes key s b → (score in_column : ℕ) (division : Division)
-    → let winner : Winner = winner_of s b in_column in
-    IsScore winner.slope winner.offset problem.boxes problem.gutters problem.alive score in_column
-    → division.members ≡ group_of winner.slope winner.offset problem.boxes problem.gutters in_column problem.alive
-    → division.others ≡ filter (λ position. not (is_of winner.slope winner.offset problem.gutters in_column (slice_get problem.boxes position))) problem.alive
+pub taken_line : (problem : GridProblem) (key : ℕ) → problem.height ≤ 8192 → IsGridAnswer problem key → 0 < key → (s b : ℤ) (d : ℕ)
+    → Decodes key s b d → (score in_column : ℕ) (division : Division)
+    → let winner : Winner = winner_of s b d in_column in
+    IsScore winner.slope winner.offset winner.depth problem.boxes problem.gutters problem.alive score in_column
+    → division.members ≡ group_of winner.slope winner.offset winner.depth problem.boxes problem.gutters in_column problem.alive
+    → division.others ≡ filter (λ position. not (is_of winner.slope winner.offset winner.depth problem.gutters in_column (slice_get problem.boxes position))) problem.alive
     → IsTaken problem key score winner division
-taken_line problem key high answer positive s b decodes score in_column division scored are rest =
-    let winner : Winner = winner_of s b in_column in
-    let won = winner_is problem key high answer positive winner.slope winner.offset (decodes_back problem key high answer positive s b decodes) score in_column scored in
+taken_line problem key high answer positive s b d decodes score in_column division scored are rest =
+    let winner : Winner = winner_of s b d in_column in
+    let won = winner_is problem key high answer positive winner.slope winner.offset winner.depth (decodes_back problem key high answer positive s b d decodes) score in_column scored in
     record { point = won.point; scored = scored; enough = won.enough; has_key = won.is; members = are; others = rest }
 
 -- its numbers fit their types
@@ -191,8 +203,8 @@ pub offset_fits : (problem : GridProblem) (key score : ℕ) (winner : Winner) (d
 offset_fits problem key score winner division high taken = omega (arith, ints, high, taken.point.low, taken.point.high)
 
 -- the rest keeps the limits
-pub rest_within : (height : ℕ) (boxes gutters : List Rect) (alive others : List ℕ) (p : ℕ → Bool) → IsWithinLimits (record { height = height; boxes = boxes; alive = alive; gutters = gutters }) → others ≡ filter p alive → IsWithinLimits (record { height = height; boxes = boxes; alive = others; gutters = gutters })
-rest_within height boxes gutters alive others p limits are = record {
+pub rest_within : (height median : ℕ) (boxes gutters : List Rect) (alive others : List ℕ) (p : ℕ → Bool) → IsWithinLimits (record { height = height; median = median; boxes = boxes; alive = alive; gutters = gutters }) → others ≡ filter p alive → IsWithinLimits (record { height = height; median = median; boxes = boxes; alive = others; gutters = gutters })
+rest_within height median boxes gutters alive others p limits are = record {
   low = limits.low;
   high = limits.high;
   few_boxes = limits.few_boxes;
@@ -205,18 +217,18 @@ pub problem_with : (view problem : GridProblem) → view ≡ problem → (others
 problem_with view problem same others rest are = cc
 
 -- the lines so far end well, whatever lines the rest has
-abbrev pub EndsWell : List Rect → List Rect → ℕ → List ℕ → List ℕ → List Line → Type 0
-EndsWell boxes gutters height start alive lines = (rest : List Line) → IsLineList boxes gutters height alive rest → IsLineList boxes gutters height start (lines ++ rest)
+abbrev pub EndsWell : List Rect → List Rect → ℕ → ℕ → List ℕ → List ℕ → List Line → Type 0
+EndsWell boxes gutters height median start alive lines = (rest : List Line) → IsLineList boxes gutters height median alive rest → IsLineList boxes gutters height median start (lines ++ rest)
 
-pub none_yet : (boxes gutters : List Rect) (height : ℕ) (start alive : List ℕ) (lines : List Line) → alive ≡ start → lines ≡ [] → EndsWell boxes gutters height start alive lines
-none_yet boxes gutters height start alive lines same none = λ rest are.
-    subst (λ (xs : List Line). IsLineList boxes gutters height start (xs ++ rest)) (sym none) (subst (λ (xs : List ℕ). IsLineList boxes gutters height xs rest) same are)
+pub none_yet : (boxes gutters : List Rect) (height median : ℕ) (start alive : List ℕ) (lines : List Line) → alive ≡ start → lines ≡ [] → EndsWell boxes gutters height median start alive lines
+none_yet boxes gutters height median start alive lines same none = λ rest are.
+    subst (λ (xs : List Line). IsLineList boxes gutters height median start (xs ++ rest)) (sym none) (subst (λ (xs : List ℕ). IsLineList boxes gutters height median xs rest) same are)
 
-pub ended : (boxes gutters : List Rect) (height : ℕ) (start alive : List ℕ) (lines : List Line) → EndsWell boxes gutters height start alive lines → HasNoLine boxes gutters height alive → IsLineList boxes gutters height start lines
-ended boxes gutters height start alive lines ends none = subst (λ (xs : List Line). IsLineList boxes gutters height start xs) (append-nil lines) (ends [] none)
+pub ended : (boxes gutters : List Rect) (height median : ℕ) (start alive : List ℕ) (lines : List Line) → EndsWell boxes gutters height median start alive lines → HasNoLine boxes gutters height median alive → IsLineList boxes gutters height median start lines
+ended boxes gutters height median start alive lines ends none = subst (λ (xs : List Line). IsLineList boxes gutters height median start xs) (append-nil lines) (ends [] none)
 
-pub one_more : (boxes gutters : List Rect) (height : ℕ) (start alive next : List ℕ) (line : Line) (lines more : List Line) → EndsWell boxes gutters height start alive lines → IsBestLine boxes gutters height alive line → next ≡ without line.members alive → more ≡ lines ++ line ∷ [] → EndsWell boxes gutters height start next more
-one_more boxes gutters height start alive next line lines more ends best is pushed = λ rest are.
-    let longer : IsLineList boxes gutters height alive (line ∷ rest) = (best, subst (λ (xs : List ℕ). IsLineList boxes gutters height xs rest) is are) in
+pub one_more : (boxes gutters : List Rect) (height median : ℕ) (start alive next : List ℕ) (line : Line) (lines more : List Line) → EndsWell boxes gutters height median start alive lines → IsBestLine boxes gutters height median alive line → next ≡ without line.members alive → more ≡ lines ++ line ∷ [] → EndsWell boxes gutters height median start next more
+one_more boxes gutters height median start alive next line lines more ends best is pushed = λ rest are.
+    let longer : IsLineList boxes gutters height median alive (line ∷ rest) = (best, subst (λ (xs : List ℕ). IsLineList boxes gutters height median xs rest) is are) in
     let joined : lines ++ (line ∷ rest) ≡ more ++ rest = sym (append_assoc lines (line ∷ []) rest) ∙ ap (λ (xs : List Line). xs ++ rest) (sym pushed) in
-    subst (λ (xs : List Line). IsLineList boxes gutters height start xs) joined (ends (line ∷ rest) longer)
+    subst (λ (xs : List Line). IsLineList boxes gutters height median start xs) joined (ends (line ∷ rest) longer)

@@ -8,30 +8,32 @@ use Rattle.line_quality.specs.declared.limits.TheConstants.{MAX_GUTTERS}
 use Rattle.line_quality.specs.Keys.{line_key}
 use Rattle.line_search.specs.Lines.{IsScored, IsAdmissiblePoint}
 
--- the height of the page, its boxes, the positions of those that are alive, and its gutters
+-- the height of the page, the median height of its boxes, its boxes, the positions of those that are alive, and its gutters
 pub record GridProblem : Type 0 where
   pub height : ℕ
+  pub median : ℕ
   pub boxes : List Rect
   pub alive : List ℕ
   pub gutters : List Rect
 
--- the height, and each list after its length, with four numbers for each box and each gutter
+-- the height, the median, and each list after its length, with four numbers for each box and each gutter
 unfoldable pub grid_numbers : GridProblem → List ℤ
 grid_numbers problem =
-    pos problem.height ∷ pos (length problem.boxes)
+    pos problem.height ∷ pos problem.median ∷ pos (length problem.boxes)
     ∷ (boxes_numbers problem.boxes ++ (pos (length problem.alive)
     ∷ (map pos problem.alive ++ (pos (length problem.gutters) ∷ boxes_numbers problem.gutters))))
 
-abbrev pub HasScore : GridProblem → ℤ → ℤ → ℕ → Type 0
-HasScore problem slope offset score = IsScored problem.boxes problem.gutters problem.height problem.alive slope offset score
+abbrev pub HasScore : GridProblem → ℤ → ℤ → ℕ → ℕ → Type 0
+HasScore problem slope offset depth score = IsScored problem.boxes problem.gutters problem.height problem.median problem.alive slope offset depth score
 
 -- some admissible point of the grid has the key
 pub record HasPointOfKey (key : ℕ) (problem : GridProblem) : Type 0 where
   pub slope : ℤ
   pub offset : ℤ
+  pub depth : ℕ
   pub score : ℕ
-  pub has_key : line_key score slope offset ≡ key
-  pub admissible : IsAdmissiblePoint problem.boxes problem.gutters problem.height problem.alive slope offset score
+  pub has_key : line_key score slope offset depth ≡ key
+  pub admissible : IsAdmissiblePoint problem.boxes problem.gutters problem.height problem.median problem.alive slope offset depth score
 
 -- the keys that are searched are those of the admissible points
 abbrev pub IsGridKey : List ℤ → ℕ → Type 0

@@ -11,11 +11,11 @@ use Rattle.line_search.specs.Problem.{GridProblem}
 
 -- the line has the key, and the positions that are alive are divided by whether they are in it
 pub record IsTaken (problem : GridProblem) (key score : ℕ) (winner : Winner) (division : Division) : Type 0 where
-  pub point : IsPoint problem.height winner.slope winner.offset
-  pub scored : IsScore winner.slope winner.offset problem.boxes problem.gutters problem.alive score winner.column
+  pub point : IsPoint problem.height problem.median winner.slope winner.offset winner.depth
+  pub scored : IsScore winner.slope winner.offset winner.depth problem.boxes problem.gutters problem.alive score winner.column
   pub enough : LEAST_SCORE ≤ score
-  pub has_key : line_key score winner.slope winner.offset ≡ key
-  pub members : division.members ≡ group_of winner.slope winner.offset problem.boxes problem.gutters winner.column problem.alive
+  pub has_key : line_key score winner.slope winner.offset winner.depth ≡ key
+  pub members : division.members ≡ group_of winner.slope winner.offset winner.depth problem.boxes problem.gutters winner.column problem.alive
   pub others : division.others
-      ≡ filter (λ position. not (is_of winner.slope winner.offset problem.gutters winner.column
+      ≡ filter (λ position. not (is_of winner.slope winner.offset winner.depth problem.gutters winner.column
       (slice_get problem.boxes position))) problem.alive

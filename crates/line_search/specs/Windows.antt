@@ -1,5 +1,5 @@
 -- The search for the best line by ranges of rows, each for a range of offsets.
-use Rattle.std.specs.Prelude.{◌≡◌, ℕ, ◌+◌, ◌<◌, ◌≤◌, ℤ, pos, negsuc, ◌-ℤ◌, ◌≤ℤ◌, unsigned_abs, Bool, true, false, ◌&&◌}
+use Rattle.std.specs.Prelude.{◌≡◌, ℕ, ◌+◌, ◌<◌, ◌≤◌, ℤ, pos, negsuc, ◌+ℤ◌, ◌≤ℤ◌, Bool, true, false, ◌&&◌}
 use Rattle.std.specs.Prelude.{nat_le, nat_lt, List, Option, Some, None, slice_get, All, Any}
 use Rattle.std.specs.List.{filter}
 use Rattle.layout_geom.specs.declared.rect.Rect.{Rect}
@@ -27,15 +27,18 @@ within rows problem = record problem { alive = standing rows problem.boxes probl
 abbrev pub IsSearchedWindow : GridProblem → Window → Type 0
 IsSearchedWindow problem window = IsGreatestKey (IsGridKey (grid_numbers (within window.rows problem))) window.key
 
--- what weighs something for a line has its foot at most so many rows from the line's offset
+-- the foot of what weighs something for a line is at most so many rows above the line's offset, and at most so many rows, and
+-- those of the line's depth, below it
 abbrev pub IsMargin : List Rect → ℕ → Type 0
-IsMargin boxes margin = All (λ box. (slope offset : ℤ) → IsSlope slope → 0 < weight slope offset box
-    → unsigned_abs (offset -ℤ pos box.y1) ≤ margin) boxes
+IsMargin boxes margin = All (λ box. (slope offset : ℤ) (depth : ℕ) → IsSlope slope → 0 < weight slope offset depth box
+    → (offset ≤ℤ pos (box.y1 + margin)) × (pos box.y1 ≤ℤ (offset +ℤ pos (margin + depth)))) boxes
 
--- what weighs something for a line of the offset has its foot in the rows
-abbrev pub HasFeet : List Rect → ℤ → Rows → Type 0
-HasFeet boxes offset rows = All (λ box. (slope : ℤ) → IsSlope slope → 0 < weight slope offset box → stands_in rows (Some box) ≡ true) boxes
+-- what weighs something for a line of the offset, no deeper than this, has its foot in the rows
+abbrev pub HasFeet : List Rect → ℕ → ℤ → Rows → Type 0
+HasFeet boxes deep offset rows = All (λ box. (slope : ℤ) (depth : ℕ) → IsSlope slope → depth ≤ deep
+    → 0 < weight slope offset depth box → stands_in rows (Some box) ≡ true) boxes
 
 -- each offset of the grid of a page of this height has such rows
-abbrev pub HaveFeet : List Rect → ℕ → List Rows → Type 0
-HaveFeet boxes height all = (offset : ℤ) → LEAST_OFFSET ≤ℤ offset → offset ≤ℤ pos (height + OFFSET_MARGIN) → Any (HasFeet boxes offset) all
+abbrev pub HaveFeet : List Rect → ℕ → ℕ → List Rows → Type 0
+HaveFeet boxes height deep all = (offset : ℤ) → LEAST_OFFSET ≤ℤ offset → offset ≤ℤ pos (height + OFFSET_MARGIN)
+    → Any (HasFeet boxes deep offset) all

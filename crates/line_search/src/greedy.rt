@@ -31,7 +31,7 @@ fn copy_of(alloc: Global, rects: &Rects) -> Result<Rects, OutOfMemory>
 /// At first all kept boxes that have about the size of a character are alive. A line is the admissible
 /// line of the grid of greatest key; its members are the boxes that weigh something for it, of the column
 /// between gutters that weighs most, so that no line goes on across a gutter that it crosses. They are
-/// alive no more afterwards. The list ends where no line has a score of at least `LEAST_SCORE`.
+/// alive no more afterwards. A line is at most as deep as a third of the median height of the boxes. The list ends where no line has a score of at least `LEAST_SCORE`.
 ///
 /// There are at most 60,000 boxes and `MAX_GUTTERS` gutters, the height is from 1 to `MAX_SIDE`, and one rectangle has all
 /// boxes inside. The one refusal is want of memory, after which it may be called again.
@@ -54,7 +54,7 @@ pub fn lines<F: Searcher<Grid>>(
 {
     let alive = characters(alloc, kept)?;
     let boxes = copy_of(alloc, &kept.boxes)?;
-    let mut grid = Grid::new(boxes, alive, copy_of(alloc, gutters)?, height);
+    let mut grid = Grid::new(boxes, alive, copy_of(alloc, gutters)?, height, kept.median);
     let mut windows = first_windows(alloc, &mut grid, searcher)?;
     let mut lines = Lines::new(alloc);
     loop {

@@ -4,23 +4,25 @@ use crate::line::Line;
 use crate::members::{Division, Winner, divide, least_round};
 use crate::near::near;
 use crate::parts::{halves, listed};
+use crate::rows::farthest;
 use crate::span::Span;
 use box_search::{Node, Shape, Space, Step};
 use layout_geom::{Numbers, Rects};
 use layout_limits::{MAX_SIDE, OutOfMemory};
 use line_quality::{
-    LEAST_OFFSET, LEAST_SLOPE, MAX_GUTTERS, MAX_SLOPE, OFFSET_MARGIN, Score, line_key, point_of,
-    score_at,
+    LEAST_OFFSET, LEAST_SLOPE, MAX_DEPTH, MAX_GUTTERS, MAX_SLOPE, OFFSET_MARGIN, Score, line_key,
+    point_of, score_at,
 };
 use std::alloc::Global;
 use std::marker::Model;
 use std::mem;
 
-/// The lines that a page may have, by their slopes and offsets, to be searched for the one of greatest
+/// The lines that a page may have, by their slopes, offsets and depths, to be searched for the one of greatest
 /// key: a search for baselines by branch and bound, after Breuel (2002).
 ///
 /// The slopes go from `LEAST_SLOPE` to `MAX_SLOPE` thousandths, the offsets from `OFFSET_MARGIN` rows above the page
-/// to as many below it. A line is admitted where its score among the boxes that are alive is at least
+/// to as many below it, the depths from 0 to a third of the median height of the page's boxes, and to `MAX_DEPTH` at
+/// most. A line is admitted where its score among the boxes that are alive is at least
 /// `LEAST_SCORE`.
 #[derive(Drop)]
 pub struct Grid {
@@ -28,6 +30,8 @@ pub struct Grid {
     alive: Numbers,
     gutters: Rects,
     height: u16,
+    median: u16,
+    widest: u16,
 }
 
 impl Model for Grid {
@@ -35,17 +39,17 @@ impl Model for Grid {
 
     ghost Value = { GridProblem };
 
-    ghost view = { λ grid. record { height = grid.height; boxes = grid.boxes; alive = grid.alive; gutters = grid.gutters } };
+    ghost view = { λ grid. record { height = grid.height; median = grid.median; boxes = grid.boxes; alive = grid.alive; gutters = grid.gutters } };
 
     ghost invariant = { λ grid. IsWithinLimits
-        (record { height = grid.height; boxes = grid.boxes; alive = grid.alive; gutters = grid.gutters }) };
+        (record { height = grid.height; median = grid.median; boxes = grid.boxes; alive = grid.alive; gutters = grid.gutters }) };
 }
 
 /// The least score of a line: less than three boxes do not make one.
 pub const LEAST_SCORE: u32 = 60;
 
 /// The least key of a line whose score is enough.
-const LEAST_KEY: u64 = (LEAST_SCORE as u64) << 23;
+const LEAST_KEY: u64 = (LEAST_SCORE as u64) << 29;
 
 /// A line that is taken out of a grid.
 #[derive(Drop)]
@@ -60,7 +64,7 @@ impl Grid {
     ghost use Rattle.layout_geom.specs.declared.rect.Rect.{Rect};
     ghost use Rattle.layout_geom.specs.Rectangles.{Encloses};
     ghost use Rattle.box_search.specs.Search.{IsGreatestKey};
-    ghost use Rattle.line_search.specs.Lines.{IsBestLine, without};
+    ghost use Rattle.line_search.specs.Lines.{deepest, IsBestLine, without};
     ghost use Rattle.line_search.specs.Problem.{grid_numbers, IsGridKey};
     ghost use Rattle.line_search.specs.Shapes.{IsInGrid};
     ghost use Rattle.line_search.specs.Bounds.{IsOver, HasWeighing, IsGridNode};
@@ -68,9 +72,9 @@ impl Grid {
     ghost use Rattle.line_search.specs.Taken.{IsTaken};
 
     /// The lines of a page with these boxes, scored by those of them at the positions in `alive`. There are
-    /// at most 60,000 boxes, 60,000 positions and `MAX_GUTTERS` gutters, and the height is from 1 to `MAX_SIDE`. It takes no
-    /// memory.
-    pub fn new(boxes: Rects, alive: Numbers, gutters: Rects, height: u16) -> Grid
+    /// at most 60,000 boxes, 60,000 positions and `MAX_GUTTERS` gutters, and the height is from 1 to `MAX_SIDE`. The median
+    /// is that of the heights of the page's boxes. It takes no memory.
+    pub fn new(boxes: Rects, alive: Numbers, gutters: Rects, height: u16, median: u16) -> Grid
         requires low { 1 ≤ height }
         requires high { height ≤ MAX_SIDE }
         requires few_boxes { length boxes ≤ 60000 }
@@ -78,15 +82,19 @@ impl Grid {
         requires few_gutters { length gutters ≤ MAX_GUTTERS }
         requires positions { All (λ position. position < length boxes) alive }
         ensures height { result.height ≡ height }
+        ensures median { result.median ≡ median }
         ensures boxes { result.boxes ≡ boxes }
         ensures alive { result.alive ≡ alive }
         ensures gutters { result.gutters ≡ gutters }
     {
+        let widest = farthest(boxes.as_slice());
         Grid {
             boxes,
             alive,
             gutters,
             height,
+            median,
+            widest,
         }
     }
 
@@ -102,6 +110,13 @@ impl Grid {
         ensures { result ≡ self.now.height }
     {
         self.height
+    }
+
+    /// The greatest depth of the page's lines.
+    pub(crate) fn deepest(&self) -> u8
+        ensures { result ≡ deepest self.now.median }
+    {
+        (self.median / 3).min(MAX_DEPTH as u16) as u8
     }
 
     /// The positions of the boxes that are alive.
@@ -126,7 +141,7 @@ impl Grid {
     /// The node of a shape. The stretch has at least the positions of the boxes that can weigh something for
     /// its lines.
     fn node_of(&self, alloc: Global, shape: Shape, span: Span) -> Result<Node<Span>, OutOfMemory>
-        requires in_grid { IsInGrid self.now.height shape }
+        requires in_grid { IsInGrid self.now.height (deepest self.now.median) shape }
         requires weighing { HasWeighing self.now shape span }
         ensures fitting { IfOk result (λ node. IsGridNode node self.now) }
         ensures shape { IfOk result (λ node. node.shape ≡ shape) }
@@ -135,7 +150,12 @@ impl Grid {
         let near = near(alloc, &shape, &self.boxes, &self.gutters, positions)?;
         Ok(Node {
             shape,
-            bound: line_key(near.score.score, nearest_slope(&shape), shape.b0 as i16),
+            bound: line_key(
+                near.score.score,
+                nearest_slope(&shape),
+                shape.b0 as i16,
+                shape.c0 as u8,
+            ),
             work: Span {
                 from: span.from + near.span.from,
                 to: span.from + near.span.to,
@@ -151,7 +171,7 @@ impl Grid {
         span: Span,
         limit: u64,
     ) -> Result<Option<Node<Span>>, OutOfMemory>
-        requires in_grid { IsInGrid self.now.height shape }
+        requires in_grid { IsInGrid self.now.height (deepest self.now.median) shape }
         requires weighing { HasWeighing self.now shape span }
         requires over { IsOver self.now shape limit }
         ensures fitting { IfOk result (λ part. IfSome part (λ node. IsGridNode node self.now)) }
@@ -174,10 +194,11 @@ impl Grid {
         requires high { self.now.height ≤ MAX_SIDE }
         ensures { IfOk result (λ taken. IsTaken self.now key taken.score taken.winner taken.division) }
     {
-        let (slope, offset) = point_of(key);
+        let (slope, offset, depth) = point_of(key);
         let Score { score, column } = score_at(
             slope,
             offset,
+            depth,
             &self.boxes,
             &self.alive,
             &self.gutters,
@@ -185,6 +206,7 @@ impl Grid {
         let winner = Winner {
             slope,
             offset,
+            depth,
             column,
         };
         let division = divide(alloc, &winner, &self.boxes, &self.alive, &self.gutters)?;
@@ -201,7 +223,7 @@ impl Grid {
         requires some { 0 < key }
         requires high { self.old.height ≤ MAX_SIDE }
         requires contained { (outer : Rect) × All (Encloses outer) self.old.boxes }
-        ensures best { IfOk result (λ line. IsBestLine self.old.boxes self.old.gutters self.old.height self.old.alive line) }
+        ensures best { IfOk result (λ line. IsBestLine self.old.boxes self.old.gutters self.old.height self.old.median self.old.alive line) }
         ensures rest { IfOk result (λ line. self.new ≡ record self.old { alive = without line.members self.old.alive }) }
         ensures fewer { OnOk result (length self.new.alive < length self.old.alive) }
         ensures within { IfOk result (λ line. All (λ member. member < length self.old.boxes) line.members) }
@@ -216,6 +238,7 @@ impl Grid {
         Ok(Line {
             slope: winner.slope,
             offset: winner.offset,
+            depth: winner.depth,
             members: division.members,
             bbox,
             score,
@@ -226,6 +249,7 @@ impl Grid {
 impl Space for Grid {
     ghost use Rattle.std.specs.Prelude.{◌≡◌, IfOk, IfSome, IsSome};
     ghost use Rattle.box_search.specs.Search.{IsRootOf, IsStepOf};
+    ghost use Rattle.line_search.specs.Lines.{deepest};
     ghost use Rattle.line_search.specs.Problem.{grid_numbers, IsGridKey};
     ghost use Rattle.line_search.specs.Shapes.{PointLiesIn, whole_grid};
     ghost use Rattle.line_search.specs.Bounds.{FitsGrid};
@@ -250,7 +274,7 @@ impl Space for Grid {
         ensures root { let p = grid_numbers self.now in IfOk result (IsRootOf (IsGridKey p) PointLiesIn (FitsGrid p)) }
         // There always is one, and its shape is the whole grid.
         ensures always { IfOk result (λ root. IsSome root) }
-        ensures whole { IfOk result (λ root. IfSome root (λ node. node.shape ≡ whole_grid self.now.height)) }
+        ensures whole { IfOk result (λ root. IfSome root (λ node. node.shape ≡ whole_grid self.now.height (deepest self.now.median))) }
     {
         let shape = Shape {
             a0: LEAST_SLOPE as i32,
@@ -258,7 +282,7 @@ impl Space for Grid {
             b0: LEAST_OFFSET as i32,
             b1: self.height as i32 + OFFSET_MARGIN as i32 + 1,
             c0: 0,
-            c1: 1,
+            c1: self.deepest() as i32 + 1,
         };
         let all = Span {
             from: 0,
@@ -279,7 +303,7 @@ impl Space for Grid {
             }
             return Ok(Step::Settled(node.bound));
         }
-        let (lower, upper) = halves(&node.shape);
+        let (lower, upper) = halves(&node.shape, self.widest);
         let lower = self.part(alloc, lower, node.work, node.bound)?;
         let upper = self.part(alloc, upper, node.work, node.bound)?;
         Ok(Step::Split(listed(alloc, lower, upper)?))

@@ -18,6 +18,8 @@ pub(crate) struct Winner {
     pub(crate) slope: i8,
     /// The offset of the line in rows.
     pub(crate) offset: i16,
+    /// The depth of the line in rows.
+    pub(crate) depth: u8,
     /// How many crossed gutters lie left of the column.
     pub(crate) column: u32,
 }
@@ -32,14 +34,16 @@ pub(crate) struct Division {
 /// Whether a box is in the column of a line and has weight for it.
 fn is_member(winner: &Winner, gutters: &Rects, rect: &Rect) -> bool
     requires { length gutters.now ≤ MAX_GUTTERS }
-    ensures { result ≡ is_of winner.now.slope winner.now.offset gutters.now winner.now.column (Some rect.now) }
+    ensures { result ≡ is_of winner.now.slope winner.now.offset winner.now.depth gutters.now winner.now.column (Some rect.now) }
 {
     let Winner {
         slope,
         offset,
+        depth,
         column: winning,
     } = *winner;
-    weight(slope, offset, rect) > 0 && column(slope, offset, gutters, middle(rect)) == winning
+    weight(slope, offset, depth, rect) > 0
+        && column(slope, offset, gutters, middle(rect)) == winning
 }
 
 /// Divides the positions that are alive by whether they are in a line.
@@ -53,9 +57,9 @@ pub(crate) fn divide(
     requires few_gutters { length gutters.now ≤ MAX_GUTTERS }
     requires positions { All (λ position. position < length boxes.now) alive.now }
     ensures members { IfOk result (λ division. division.members
-        ≡ group_of winner.now.slope winner.now.offset boxes.now gutters.now winner.now.column alive.now) }
+        ≡ group_of winner.now.slope winner.now.offset winner.now.depth boxes.now gutters.now winner.now.column alive.now) }
     ensures others { IfOk result (λ division. division.others
-        ≡ filter (λ position. not (is_of winner.now.slope winner.now.offset gutters.now winner.now.column
+        ≡ filter (λ position. not (is_of winner.now.slope winner.now.offset winner.now.depth gutters.now winner.now.column
         (slice_get boxes.now position))) alive.now) }
 {
     let mut members = Numbers::new(alloc);

@@ -11,7 +11,7 @@ use crate::span::Span;
 use box_search::Shape;
 use layout_geom::{Rect, Rects};
 use layout_limits::{MAX_SIDE, OutOfMemory};
-use line_quality::{MAX_COLUMNS, MAX_GUTTERS, MAX_WEIGHT, Score, greatest, middle};
+use line_quality::{MAX_COLUMNS, MAX_DEPTH, MAX_GUTTERS, MAX_WEIGHT, Score, greatest, middle};
 use std::alloc::Global;
 
 /// What counts for the lines of a shape.
@@ -25,7 +25,7 @@ pub(crate) struct Nearby {
 
 /// The middles of the gutters that all lines of the shape cross, in the order of the gutters.
 fn sure_middles(alloc: Global, shape: &Shape, gutters: &[Rect]) -> Result<Vec<u16>, OutOfMemory>
-    requires { IsInGrid MAX_SIDE shape.now }
+    requires { IsInGrid MAX_SIDE MAX_DEPTH shape.now }
     ensures value { IfOk result (λ middles. middles.items ≡ map middle_of (filter (Bounds.all_cross shape.now) gutters.now)) }
     ensures few { IfOk result (λ middles. length middles.items ≤ length gutters.now) }
 {
@@ -55,7 +55,7 @@ pub(crate) fn near(
     gutters: &Rects,
     positions: &[u32],
 ) -> Result<Nearby, OutOfMemory>
-    requires shape { IsInGrid MAX_SIDE shape.now }
+    requires shape { IsInGrid MAX_SIDE MAX_DEPTH shape.now }
     requires few_gutters { length gutters.now ≤ MAX_GUTTERS }
     requires few { length positions.now ≤ 60000 }
     requires within { All (λ position. position < length boxes.now) positions.now }

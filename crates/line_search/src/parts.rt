@@ -1,13 +1,14 @@
 //! The two parts of a shape.
-ghost use Rattle.std.specs.Prelude.{◌≡◌, ◌++◌, IfOk};
+ghost use Rattle.std.specs.Prelude.{◌≡◌, ◌++◌, ◌+ℤ◌, ◌≤ℤ◌, ◌<ℤ◌, pos, negsuc, IfOk};
 ghost use Rattle.std.specs.Option.{option_to_list};
 ghost use Rattle.line_search.specs.Shapes.{IsInGrid, IsSingle};
 ghost use Rattle.line_search.specs.Parts;
-ghost use Rattle.line_search.specs.Parts.{AreHalves};
+ghost use Rattle.line_search.specs.Parts.{AreHalves, IsLong};
 
 use crate::span::Span;
 use box_search::{Node, Shape};
 use layout_limits::{MAX_SIDE, OutOfMemory};
+use line_quality::MAX_DEPTH;
 use std::alloc::Global;
 
 /// The middle of a range, rounded towards the lesser number.
@@ -17,37 +18,95 @@ fn half(low: i16, high: i16) -> i32
     (low as i32 + high as i32).div_euclid(2)
 }
 
-/// The two parts of a shape, which is cut at the middle of its longer range. Any range would do; the
-/// longer one keeps the search short.
-pub(crate) fn halves(shape: &Shape) -> (Shape, Shape)
-    requires in_grid { IsInGrid MAX_SIDE shape.now }
+/// The ranges of a shape.
+#[derive(Clone, Copy, Debug, PartialEq, Eq)]
+pub(crate) enum Range {
+    /// That of the slopes.
+    Slopes,
+    /// That of the offsets.
+    Offsets,
+    /// That of the depths.
+    Depths,
+}
+
+/// How much a cut of a range that reaches over so many rows gains: nothing where it has one number alone.
+fn gain(low: i32, high: i32, rows: i32) -> i32
+    requires low { negsuc 9999 ≤ℤ low }
+    requires some { low <ℤ high }
+    requires high { high ≤ℤ pos 9999 }
+    ensures none { high ≤ℤ (low +ℤ pos 1) → result ≡ pos 0 }
+    ensures some { (low +ℤ pos 2) ≤ℤ high → pos 1 ≤ℤ result }
+{
+    if high - low > 1 { rows.max(1) } else { 0 }
+}
+
+/// The range of a shape that reaches over the most rows, where the farthest middle of a box is `widest` columns
+/// from the left.
+fn longest(shape: &Shape, widest: u16) -> Range
+    requires in_grid { IsInGrid MAX_SIDE MAX_DEPTH shape.now }
+    requires wide { IsSingle shape.now → ⊥ }
+    ensures { IsLong shape.now result }
+{
+    let reach = (shape.a1 - shape.a0) * widest as i32 / 1000;
+    let by_slopes = gain(shape.a0, shape.a1, reach);
+    let by_offsets = gain(shape.b0, shape.b1, shape.b1 - shape.b0);
+    let by_depths = gain(shape.c0, shape.c1, shape.c1 - shape.c0);
+    if by_offsets >= by_slopes && by_offsets >= by_depths {
+        Range::Offsets
+    } else if by_slopes >= by_depths {
+        Range::Slopes
+    } else {
+        Range::Depths
+    }
+}
+
+/// The two parts of a shape, which is cut at the middle of the range that reaches over the most rows up to the farthest
+/// middle of a box. Any range would do; this one keeps the search short.
+pub(crate) fn halves(shape: &Shape, widest: u16) -> (Shape, Shape)
+    requires in_grid { IsInGrid MAX_SIDE MAX_DEPTH shape.now }
     requires wide { IsSingle shape.now → ⊥ }
     ensures { AreHalves shape.now result.0 result.1 }
 {
-    if shape.b1 - shape.b0 >= shape.a1 - shape.a0 {
-        let middle = half(shape.b0 as i16, shape.b1 as i16);
-        (
-            Shape {
-                b1: middle,
-                ..*shape
-            },
-            Shape {
-                b0: middle,
-                ..*shape
-            },
-        )
-    } else {
-        let middle = half(shape.a0 as i16, shape.a1 as i16);
-        (
-            Shape {
-                a1: middle,
-                ..*shape
-            },
-            Shape {
-                a0: middle,
-                ..*shape
-            },
-        )
+    match longest(shape, widest) {
+        Range::Slopes => {
+            let middle = half(shape.a0 as i16, shape.a1 as i16);
+            (
+                Shape {
+                    a1: middle,
+                    ..*shape
+                },
+                Shape {
+                    a0: middle,
+                    ..*shape
+                },
+            )
+        }
+        Range::Offsets => {
+            let middle = half(shape.b0 as i16, shape.b1 as i16);
+            (
+                Shape {
+                    b1: middle,
+                    ..*shape
+                },
+                Shape {
+                    b0: middle,
+                    ..*shape
+                },
+            )
+        }
+        Range::Depths => {
+            let middle = half(shape.c0 as i16, shape.c1 as i16);
+            (
+                Shape {
+                    c1: middle,
+                    ..*shape
+                },
+                Shape {
+                    c0: middle,
+                    ..*shape
+                },
+            )
+        }
     }
 }
 

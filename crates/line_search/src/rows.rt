@@ -1,10 +1,11 @@
 //! Ranges of rows in which the feet of boxes stand: what a search of a range of offsets has to look at.
 ghost use Rattle.std.specs.Prelude.{◌≡◌, ◌<◌, ◌≤◌, false, IfOk, IsTrue, Some, length, slice_get, All, Any};
+ghost use Rattle.line_quality.specs.Points.{middle_of};
 ghost use Rattle.line_search.specs.Windows;
 ghost use Rattle.line_search.specs.Windows.{stands_in, IsMargin, HaveFeet};
 
 use layout_geom::{Numbers, Rect, Rects};
-use layout_limits::OutOfMemory;
+use layout_limits::{MAX_SIDE, OutOfMemory};
 use line_quality::{MAX_SLOPE, OFFSET_MARGIN, middle};
 use std::alloc::Global;
 
@@ -56,25 +57,39 @@ pub(crate) fn standing(
     Ok(some)
 }
 
-/// How many rows the foot of a box that weighs something for a line can stand from the line's offset: four
-/// more than a line of the greatest slope rises up to the farthest middle of a box.
-fn margin(boxes: &[Rect]) -> u32
-    ensures margin { IsMargin boxes.now result }
-    ensures some { 0 < result }
-    ensures small { result ≤ 267 }
+/// The farthest middle of a box from the left, 0 where there is no box.
+pub(crate) fn farthest(boxes: &[Rect]) -> u16
+    ensures farthest { All (λ rect. middle_of rect ≤ result) boxes.now }
+    ensures small { result < MAX_SIDE }
 {
     let mut farthest = 0;
     for rect in boxes {
         farthest = middle(rect).max(farthest);
     }
-    farthest as u32 * MAX_SLOPE as u32 / 1000 + 5
+    farthest
+}
+
+/// How many rows the foot of a box that weighs something for a line can stand above the line's offset, and below its
+/// offset and depth: four more than a line of the greatest slope rises up to the farthest middle of a box.
+fn margin(boxes: &[Rect]) -> u32
+    ensures margin { IsMargin boxes.now result }
+    ensures some { 0 < result }
+    ensures small { result ≤ 267 }
+{
+    farthest(boxes) as u32 * MAX_SLOPE as u32 / 1000 + 5
 }
 
 /// Ranges of rows such that for each offset of a page of this height one of them has the feet of all boxes that
-/// weigh something for a line of that offset. Each serves a range of offsets, two margins long, and goes on for
-/// a margin before and behind it, so that a foot stands in few of them.
-pub(crate) fn all_rows(alloc: Global, boxes: &[Rect], height: u16) -> Result<Vec<Rows>, OutOfMemory>
-    ensures { IfOk result (λ all. HaveFeet boxes.now height all.items) }
+/// weigh something for a line of that offset and of at most the greatest depth. Each serves a range of offsets, two
+/// margins long, and goes on for a margin before it, and for a margin and the depth behind it, so that a foot stands in
+/// few of them.
+pub(crate) fn all_rows(
+    alloc: Global,
+    boxes: &[Rect],
+    height: u16,
+    deepest: u8,
+) -> Result<Vec<Rows>, OutOfMemory>
+    ensures { IfOk result (λ all. HaveFeet boxes.now height deepest all.items) }
 {
     let margin = margin(boxes);
     let mut all = Vec::new(alloc);
@@ -82,7 +97,7 @@ pub(crate) fn all_rows(alloc: Global, boxes: &[Rect], height: u16) -> Result<Vec
     while first <= height as u32 + 2 * OFFSET_MARGIN as u32 {
         let rows = Rows {
             from: first.saturating_sub(OFFSET_MARGIN as u32 + margin),
-            to: (first + 3 * margin).saturating_sub(OFFSET_MARGIN as u32),
+            to: (first + 3 * margin + deepest as u32).saturating_sub(OFFSET_MARGIN as u32),
         };
         all.push(rows)?;
         first += 2 * margin;

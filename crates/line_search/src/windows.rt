@@ -1,6 +1,6 @@
 //! The search for the best line, window by window.
 //!
-//! A line passes near its offset, by the slope and the width of the page. So the boxes that count for the lines
+//! A line passes near its offset, by the slope and the width of the page, and its descenders reach no lower than the greatest depth. So the boxes that count for the lines
 //! of a range of offsets have their feet in a range of rows, and a search among those boxes alone finds the best
 //! of these lines. It finds no line better than it is, since other boxes only add to a score. So the greatest of
 //! the keys of all such searches is that of the whole grid, and after a line is taken only those are searched
@@ -8,6 +8,7 @@
 ghost use Rattle.std.specs.Prelude.{◌≡◌, ◌<◌, ◌≤◌, ◌⊎◌, false, IfOk, length, map, slice_get, All, Any};
 ghost use Rattle.box_search.specs.Search.{IsGreatestKey};
 ghost use Rattle.line_search.specs.declared.windows.Window.{Window};
+ghost use Rattle.line_search.specs.Lines.{deepest};
 ghost use Rattle.line_search.specs.Problem.{grid_numbers, IsGridKey};
 ghost use Rattle.line_search.specs.Windows.{stands_in, within, IsSearchedWindow, HaveFeet};
 
@@ -58,11 +59,16 @@ pub(crate) fn first_windows<F: Searcher<Grid>>(
     requires ready { F.ready searcher.old }
     ensures ready { F.ready searcher.new }
     ensures same { grid.new ≡ grid.old }
-    ensures round { IfOk result (λ windows. HaveFeet grid.old.boxes grid.old.height
+    ensures round { IfOk result (λ windows. HaveFeet grid.old.boxes grid.old.height (deepest grid.old.median)
         (map (λ (window : Window). window.rows) windows.items)) }
     ensures searched { IfOk result (λ windows. All (IsSearchedWindow grid.old) windows.items) }
 {
-    let all = all_rows(alloc, grid.boxes().as_slice(), grid.height())?;
+    let all = all_rows(
+        alloc,
+        grid.boxes().as_slice(),
+        grid.height(),
+        grid.deepest(),
+    )?;
     let mut windows = Vec::new(alloc);
     for rows in all.as_slice() {
         let key = best_within(alloc, grid, *rows, searcher)?;

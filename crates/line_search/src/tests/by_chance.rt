@@ -14,6 +14,11 @@ use std::test::Fail;
 /// The height of the pages.
 const HEIGHT: u16 = 30;
 
+/// What is given for the median height of their boxes, and the greatest depth that follows from it.
+const MEDIAN: u16 = 12;
+
+const DEEPEST: u8 = 4;
+
 /// A box 6 high whose left side and whose top follow from a number.
 fn box_of(number: u64) -> Sides {
     let (x0, y0) = ((number >> 40) % 500, (number >> 52) % 24);
@@ -36,8 +41,8 @@ fn compare(
     gutters: &[Sides],
 ) {
     assert_eq!(rt;
-        (line.score, line.slope, line.offset),
-        (choice.score, choice.slope, choice.offset)
+        (line.score, line.slope, line.offset, line.depth),
+        (choice.score, choice.slope, choice.offset, choice.depth)
     );
     let members = line.members.as_slice();
     let (mut x0, mut y0, mut x1, mut y1) = (u16::MAX, u16::MAX, 0, 0);
@@ -69,7 +74,7 @@ fn compare_page(
     let page = Rect::new(x0, y0, x1, y1).ok_or("no rectangle")?;
     let kept = Kept {
         boxes: boxes_in(alloc, &page, sides)?,
-        median: 6,
+        median: MEDIAN,
     };
     let gutters = rects_of(alloc, gutter_sides)?;
     assert!(rt; kept.boxes.len() <= 60_000 && gutters.len() <= MAX_GUTTERS);
@@ -79,19 +84,19 @@ fn compare_page(
         boxes.push((*box_sides, true))?;
     }
     for line in found.as_slice() {
-        match best_of_all(HEIGHT as i16, &boxes, gutter_sides) {
+        match best_of_all(HEIGHT as i16, DEEPEST, &boxes, gutter_sides) {
             Some(choice) => compare(rt, line, choice, &mut boxes, gutter_sides),
             None => panic!(rt; "no line is left"),
         }
     }
-    assert!(rt; best_of_all(HEIGHT as i16, &boxes, gutter_sides).is_none());
+    assert!(rt; best_of_all(HEIGHT as i16, DEEPEST, &boxes, gutter_sides).is_none());
     Ok(())
 }
 
 #[test]
 fn small_pages_by_chance(rt: HostRuntime) -> Result<(), Fail> {
     let mut number = 1;
-    for turn in 0..24 {
+    for turn in 0..12 {
         let mut boxes: Vec<Sides> = Vec::new(rt.alloc());
         for _ in 0..turn % 12 + 3 {
             number = next_number(number);

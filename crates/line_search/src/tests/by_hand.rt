@@ -12,9 +12,9 @@ use std::alloc::Global;
 use std::process::Abort;
 use std::test::Fail;
 
-/// A line as it is worked out: slope, offset, score, the first of its members and how many there are,
+/// A line as it is worked out: slope, offset and depth, score, the first of its members and how many there are,
 /// which have neighbouring positions, and its box.
-type Wanted = (i8, i16, u32, u32, u32, Sides);
+type Wanted = ((i8, i16, u8), u32, u32, u32, Sides);
 
 /// A row of glyphs of 10 by 10 pixels: its upper side, and the left sides of the glyphs.
 type Row = (u16, &'static [u16]);
@@ -49,7 +49,25 @@ const USUAL: Case = Case {
     lines: &[],
 };
 
-const CASES: [Case; 9] = [
+/// Letters without tails and letters with tails four rows long, in turn.
+const TAILS: [Sides; 5] = [
+    (10, 10, 20, 30),
+    (30, 10, 40, 34),
+    (50, 10, 60, 30),
+    (70, 10, 80, 34),
+    (90, 10, 100, 30),
+];
+
+/// The same, only half as high.
+const LOW_TAILS: [Sides; 5] = [
+    (10, 20, 20, 30),
+    (30, 20, 40, 34),
+    (50, 20, 60, 30),
+    (70, 20, 80, 34),
+    (90, 20, 100, 30),
+];
+
+const CASES: [Case; 11] = [
     Case {
         name: "no kept box",
         median: 0,
@@ -59,7 +77,7 @@ const CASES: [Case; 9] = [
     Case {
         name: "three glyphs",
         rows: &[(10, &LINE)],
-        lines: &[(0, 20, 75, 0, 3, (10, 10, 60, 20))],
+        lines: &[((0, 20, 0), 75, 0, 3, (10, 10, 60, 20))],
         ..USUAL
     },
     // The greatest score is 50.
@@ -73,7 +91,7 @@ const CASES: [Case; 9] = [
         name: "three glyphs and a rule",
         boxes: &[(0, 4, 100, 20)],
         rows: &[(10, &LINE)],
-        lines: &[(0, 20, 75, 1, 3, (10, 10, 60, 20))],
+        lines: &[((0, 20, 0), 75, 1, 3, (10, 10, 60, 20))],
         ..USUAL
     },
     Case {
@@ -82,12 +100,12 @@ const CASES: [Case; 9] = [
         gutters: &[(36, 0, 48, 41)],
         height: 41,
         lines: &[
-            (0, 12, 75, 0, 3, (2, 2, 36, 12)),
-            (0, 12, 75, 3, 3, (48, 2, 82, 12)),
-            (0, 24, 75, 6, 3, (2, 14, 36, 24)),
-            (0, 24, 75, 9, 3, (48, 14, 82, 24)),
-            (0, 36, 75, 12, 3, (2, 26, 36, 36)),
-            (0, 36, 75, 15, 3, (48, 26, 82, 36)),
+            ((0, 12, 0), 75, 0, 3, (2, 2, 36, 12)),
+            ((0, 12, 0), 75, 3, 3, (48, 2, 82, 12)),
+            ((0, 24, 0), 75, 6, 3, (2, 14, 36, 24)),
+            ((0, 24, 0), 75, 9, 3, (48, 14, 82, 24)),
+            ((0, 36, 0), 75, 12, 3, (2, 26, 36, 36)),
+            ((0, 36, 0), 75, 15, 3, (48, 26, 82, 36)),
         ],
         ..USUAL
     },
@@ -97,9 +115,9 @@ const CASES: [Case; 9] = [
         rows: &[(2, &COLUMNS), (14, &COLUMNS), (26, &COLUMNS)],
         height: 41,
         lines: &[
-            (0, 12, 150, 0, 6, (2, 2, 82, 12)),
-            (0, 24, 150, 6, 6, (2, 14, 82, 24)),
-            (0, 36, 150, 12, 6, (2, 26, 82, 36)),
+            ((0, 12, 0), 150, 0, 6, (2, 2, 82, 12)),
+            ((0, 24, 0), 150, 6, 6, (2, 14, 82, 24)),
+            ((0, 36, 0), 150, 12, 6, (2, 26, 82, 36)),
         ],
         ..USUAL
     },
@@ -115,28 +133,44 @@ const CASES: [Case; 9] = [
         gutters: &[(36, 12, 48, 53)],
         height: 53,
         lines: &[
-            (0, 12, 175, 0, 7, (2, 2, 84, 12)),
-            (0, 24, 75, 7, 3, (2, 14, 36, 24)),
-            (0, 24, 75, 10, 3, (48, 14, 82, 24)),
-            (0, 36, 75, 13, 3, (2, 26, 36, 36)),
-            (0, 36, 75, 16, 3, (48, 26, 82, 36)),
-            (0, 48, 75, 19, 3, (2, 38, 36, 48)),
-            (0, 48, 75, 22, 3, (48, 38, 82, 48)),
+            ((0, 12, 0), 175, 0, 7, (2, 2, 84, 12)),
+            ((0, 24, 0), 75, 7, 3, (2, 14, 36, 24)),
+            ((0, 24, 0), 75, 10, 3, (48, 14, 82, 24)),
+            ((0, 36, 0), 75, 13, 3, (2, 26, 36, 36)),
+            ((0, 36, 0), 75, 16, 3, (48, 26, 82, 36)),
+            ((0, 48, 0), 75, 19, 3, (2, 38, 36, 48)),
+            ((0, 48, 0), 75, 22, 3, (48, 38, 82, 48)),
         ],
+        ..USUAL
+    },
+    Case {
+        name: "letters with tails",
+        boxes: &TAILS,
+        median: 20,
+        height: 60,
+        lines: &[((0, 30, 4), 125, 0, 5, (10, 10, 100, 34))],
+        ..USUAL
+    },
+    // At a third of the median the depth is at most three.
+    Case {
+        name: "low letters with tails",
+        boxes: &LOW_TAILS,
+        height: 60,
+        lines: &[((0, 30, 3), 123, 0, 5, (10, 20, 100, 34))],
         ..USUAL
     },
     Case {
         name: "slanted line that sinks",
         boxes: &[(0, 20, 10, 30), (500, 25, 510, 35), (1000, 30, 1010, 40)],
         height: 60,
-        lines: &[(10, 30, 75, 0, 3, (0, 20, 1010, 40))],
+        lines: &[((10, 30, 0), 75, 0, 3, (0, 20, 1010, 40))],
         ..USUAL
     },
     Case {
         name: "slanted line that rises",
         boxes: &[(1000, 20, 1010, 30), (500, 25, 510, 35), (0, 30, 10, 40)],
         height: 60,
-        lines: &[(-10, 41, 75, 0, 3, (0, 20, 1010, 40))],
+        lines: &[((-10, 41, 0), 75, 0, 3, (0, 20, 1010, 40))],
         ..USUAL
     },
 ];
@@ -160,12 +194,9 @@ fn put_row(all: &mut Vec<Sides>, top: u16, lefts: &[u16]) -> Result<(), Fail> {
 
 /// Compares a line with what was worked out.
 fn compare(rt: &impl Abort, name: &str, line: &Line, wanted: Wanted) {
-    let (slope, offset, score, first, count, sides) = wanted;
-    assert_eq!(rt;
-        (line.slope, line.offset, line.score),
-        (slope, offset, score),
-        "{name}"
-    );
+    let (point, score, first, count, sides) = wanted;
+    assert_eq!(rt; (line.slope, line.offset, line.depth), point, "{name}");
+    assert_eq!(rt; line.score, score, "{name}");
     assert_eq!(rt; sides_of(&line.bbox), sides, "{name}");
     assert_eq!(rt; line.members.len(), count as usize, "{name}");
     let mut next = first;
@@ -204,8 +235,8 @@ fn lines_by_hand(rt: HostRuntime) -> Result<(), Fail> {
 
 #[test]
 fn best_line_of_a_grid(rt: HostRuntime) -> Result<(), Fail> {
-    // The key of score 75, slope 0 and offset 20, worked out by hand.
-    let cases = [(LINE.as_slice(), 633_405_119), (&[10, 30], 0)];
+    // The key of score 75, slope 0, offset 20 and depth 0, worked out by hand.
+    let cases = [(LINE.as_slice(), 40_798_060_223), (&[10, 30], 0)];
     for (lefts, key) in cases {
         let mut sides = Vec::new(rt.alloc());
         put_row(&mut sides, 10, lefts)?;
@@ -216,7 +247,7 @@ fn best_line_of_a_grid(rt: HostRuntime) -> Result<(), Fail> {
         let gutters = rects_of(rt.alloc(), &[])?;
         assert!(rt; kept.boxes.len() <= 60_000 && gutters.len() == 0);
         let alive = characters(rt.alloc(), &kept)?;
-        let grid = Grid::new(kept.boxes, alive, gutters, 40);
+        let grid = Grid::new(kept.boxes, alive, gutters, 40, kept.median);
         assert_eq!(rt; Alone.best(rt.alloc(), &grid)?, key);
         let mut noted = Noted {
             space: &grid,

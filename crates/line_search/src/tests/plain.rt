@@ -1,4 +1,4 @@
-//! The plain program: it tries every slope and every offset of the grid, and every column.
+//! The plain program: it tries every slope, every offset and every depth of the grid, and every column.
 
 /// The sides `x0`, `y0`, `x1`, `y1` of a rectangle.
 pub(crate) type Sides = (u16, u16, u16, u16);
@@ -9,6 +9,7 @@ pub(crate) struct Choice {
     pub(crate) score: u32,
     pub(crate) slope: i8,
     pub(crate) offset: i16,
+    pub(crate) depth: u8,
     pub(crate) column: usize,
 }
 
@@ -23,9 +24,11 @@ fn height_at(slope: i8, offset: i16, x: u16) -> i32 {
 }
 
 /// What a box weighs for a line.
-fn weight(slope: i8, offset: i16, sides: &Sides) -> u32 {
+fn weight(choice: Choice, sides: &Sides) -> u32 {
     let foot = sides.3 as i32;
-    match height_at(slope, offset, middle(sides)).abs_diff(foot) {
+    let height = height_at(choice.slope, choice.offset, middle(sides));
+    let below = height.saturating_add(choice.depth as i32);
+    match height.abs_diff(foot).min(below.abs_diff(foot)) {
         0 => 25,
         1 => 24,
         2 => 21,
@@ -50,7 +53,7 @@ fn column(slope: i8, offset: i16, gutters: &[Sides], sides: &Sides) -> usize {
 
 /// Whether a box is in the group of a column.
 pub(crate) fn is_member(choice: Choice, gutters: &[Sides], sides: &Sides) -> bool {
-    0 < weight(choice.slope, choice.offset, sides)
+    0 < weight(choice, sides)
         && column(choice.slope, choice.offset, gutters, sides) == choice.column
 }
 
@@ -59,17 +62,19 @@ fn group_weight(choice: Choice, boxes: &[(Sides, bool)], gutters: &[Sides]) -> u
     let mut sum: u32 = 0;
     for (sides, is_alive) in boxes {
         if *is_alive && is_member(choice, gutters, sides) {
-            sum = sum.saturating_add(weight(choice.slope, choice.offset, sides));
+            sum = sum.saturating_add(weight(choice, sides));
         }
     }
     sum
 }
 
 /// What makes one choice better than another, by the greater numbers in this order: the score, then the
-/// lesser slope without its sign, then the positive slope, then the lesser offset and the lesser column.
-fn rank_of(choice: Choice) -> (u32, i32, i32, i32, usize) {
+/// lesser depth, then the lesser slope without its sign, then the positive slope, then the lesser offset and the lesser
+/// column.
+fn rank_of(choice: Choice) -> (u32, i32, i32, i32, i32, usize) {
     (
         choice.score,
+        -(choice.depth as i32),
         -(choice.slope as i32).abs(),
         choice.slope as i32,
         -(choice.offset as i32),
@@ -77,27 +82,49 @@ fn rank_of(choice: Choice) -> (u32, i32, i32, i32, usize) {
     )
 }
 
-/// The best of all choices with a score of at least 60.
+/// The better of a choice so far and those of one line, at each depth up to the greatest and in each column.
+fn better(
+    so_far: Option<Choice>,
+    line: Choice,
+    deepest: u8,
+    boxes: &[(Sides, bool)],
+    gutters: &[Sides],
+) -> Option<Choice> {
+    let mut best = so_far;
+    for depth in 0..deepest.saturating_add(1) {
+        for column in 0..gutters.len() + 1 {
+            let mut choice = Choice {
+                depth,
+                column,
+                ..line
+            };
+            choice.score = group_weight(choice, boxes, gutters);
+            if 60 <= choice.score && best.is_none_or(|other| rank_of(other) < rank_of(choice)) {
+                best = Some(choice);
+            }
+        }
+    }
+    best
+}
+
+/// The best of all choices with a score of at least 60, of a page of this height, up to the greatest depth.
 pub(crate) fn best_of_all(
     height: i16,
+    deepest: u8,
     boxes: &[(Sides, bool)],
     gutters: &[Sides],
 ) -> Option<Choice> {
     let mut best: Option<Choice> = None;
     for slope in -32..33 {
         for offset in -300..height.saturating_add(301) {
-            for column in 0..gutters.len() + 1 {
-                let mut choice = Choice {
-                    score: 0,
-                    slope,
-                    offset,
-                    column,
-                };
-                choice.score = group_weight(choice, boxes, gutters);
-                if 60 <= choice.score && best.is_none_or(|other| rank_of(other) < rank_of(choice)) {
-                    best = Some(choice);
-                }
-            }
+            let line = Choice {
+                score: 0,
+                slope,
+                offset,
+                depth: 0,
+                column: 0,
+            };
+            best = better(best, line, deepest, boxes, gutters);
         }
     }
     best

@@ -1,12 +1,18 @@
-use Rattle.std.proofs.Common.{arith}
+use Rattle.std.proofs.Common.{◌≡◌, ◌∙◌, ◌+ℤ◌, pos, true, false, arith, sym}
 use Rattle.std.proofs.lemmas.Int.{ints}
-use Rattle.line_search.proofs.Ranges.{length_one, length_is_one}
+use Rattle.line_search.proofs.Ranges.{kept_in}
 use Rattle.line_search.proofs.bound.is_single.Goals as goal
+use Rattle.line_search.proofs.bound.is_single.Goals.{then-has_one, else-has_one}
 
-pub returns-then-shape-eq1 : goal.returns-then-shape-eq1
-returns-then-shape-eq1 c =
-    let shape = c.args.shape.now in
-    let grid = c.requires in
-    let slopes = length_is_one shape.a0 shape.a1 (omega (arith, ints, grid.from_slope)) grid.some_slope (omega (arith, ints, grid.to_slope)) c.if-shape-eq1.true in
-    let offsets = length_one shape.b0 shape.b1 (omega (arith, ints, grid.from_offset)) grid.some_offset (omega (arith, ints, grid.to_offset)) in
-    (λ t. (slopes, offsets.0 t), λ single. offsets.1 single.1)
+pub returns-then-has_one-2 : goal.returns-then-has_one-2
+returns-then-has_one-2 c = elim c.if-has_one.branch [
+  | then-has_one w ↦
+      let shape = c.args.shape.now in
+      let kept = kept_in shape c.requires in
+      let slopes : shape.a1 ≡ shape.a0 +ℤ pos 1 = omega (arith, ints, kept.0, kept.1, c.has_one.ensures.0 w.if-has_one.true) in
+      let offsets : shape.b1 ≡ shape.b0 +ℤ pos 1 = omega (arith, ints, kept.2, kept.3, w.has_one-then-has_one.ensures.0 (sym w.value-is ∙ c.if-has_one-2.true)) in (
+        λ t. (slopes, offsets, omega (arith, ints, kept.4, kept.5, c.has_one-then-has_one-2.ensures.0 t)),
+        λ single. c.has_one-then-has_one-2.ensures.1 (omega (arith, ints, kept.4, kept.5, single.2)),
+      )
+  | else-has_one w ↦ absurd (let no : false ≡ true = sym w.if-has_one.false ∙ sym w.value-is ∙ c.if-has_one-2.true in cc)
+]

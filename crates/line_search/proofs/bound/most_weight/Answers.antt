@@ -1,12 +1,27 @@
-use Rattle.std.proofs.Common.{arith, ap, ◌∙◌}
-use Rattle.line_quality.specs.Points.{weight_at}
-use Rattle.line_search.proofs.Ranges.{distance_is}
+use Rattle.std.proofs.Common.{◌≡◌, ◌∙◌, ◌+ℤ◌, ◌-ℤ◌, ℤ, pos, to_z, of_z, w32, arith, ap, refl}
+use Rattle.std.proofs.lemmas.Int.{ints}
+use Rattle.line_quality.specs.Points.{middle_of, weight_at}
+use Rattle.line_search.specs.Bounds.{lowest, highest, gap_to, distance}
+use Rattle.line_search.proofs.Ranges.{back_32, lower_is, lower_less_is}
 use Rattle.line_search.proofs.bound.most_weight.Goals as goal
 
 pub returns-clause-value : goal.returns-clause-value
 returns-clause-value c =
-    c.weight_at.ensures.value ∙ ap weight_at (distance_is c.args.shape.now c.args.rect.now c.middle.result c.y1-foot.result c.heights-lowest.result.0 c.heights-lowest.result.1 c.max-above.result c.max-below.result
-    c.middle.ensures.value c.y1-foot.ensures.value (omega arith)
-    c.heights-lowest.ensures.lowest c.heights-lowest.ensures.low
-    c.heights-lowest.ensures.highest c.heights-lowest.ensures.high
-    c.max-above.ensures.value c.max-below.ensures.value)
+    let shape = c.args.shape.now in
+    let grid = c.requires in
+    let r = c.args.rect.now in
+    let at = c.heights-lowest.ensures in
+    let low = c.heights-lowest.result.0 in
+    let high = c.heights-lowest.result.1 in
+    let is_low : low ≡ lowest shape (middle_of r) = at.lowest ∙ ap (lowest shape) c.middle.ensures.value in
+    let is_high : high ≡ highest shape (middle_of r) = at.highest ∙ ap (highest shape) c.middle.ensures.value in
+    let line : c.gap_to-from_line.result ≡ gap_to low high r =
+    rw (back_32 low at.low.0 at.low.1, back_32 high at.high.0 at.high.1, c.y1-foot.ensures.value) at c.gap_to-from_line.ensures in
+    let descenders : c.gap_to-from_descenders.result ≡ gap_to (low +ℤ shape.c0) (high +ℤ (shape.c1 -ℤ pos 1)) r =
+    rw (
+      lower_is low shape.c0 at.low.0 at.low.1 grid.from_depth (omega (arith, ints, grid.some_depth, grid.to_depth)),
+      lower_less_is high shape.c1 at.high.0 at.high.1 (omega (arith, ints, grid.from_depth, grid.some_depth)) (omega (arith, ints, grid.to_depth)),
+      c.y1-foot.ensures.value,
+    ) at c.gap_to-from_descenders.ensures in
+    let nearer : c.min.result ≡ distance shape r = rw (← is_low, ← is_high) (omega (arith, c.min.ensures, line, descenders)) in
+    c.weight_at.ensures.value ∙ ap weight_at nearer

@@ -3,7 +3,7 @@ use Rattle.layout_geom.specs.declared.rect.Rect.{Rect}
 use Rattle.layout_geom.specs.Rectangles.{Encloses}
 use Rattle.line_search.specs.declared.rows.Rows.{Rows}
 use Rattle.line_search.specs.declared.windows.Window.{Window}
-use Rattle.line_search.specs.Lines.{characters_of, IsLineList}
+use Rattle.line_search.specs.Lines.{deepest, characters_of, IsLineList}
 use Rattle.line_search.specs.Problem.{GridProblem}
 use Rattle.line_search.specs.Windows.{IsSearchedWindow, HaveFeet}
 use Rattle.line_search.proofs.Taking.{none_yet, no_line, ended, one_more}
@@ -20,9 +20,10 @@ loop-alloc-init g c =
       boxes = ap (λ (p : GridProblem). p.boxes) same ∙ c.new-grid.ensures.boxes ∙ c.in_ok-boxes.ensures;
       gutters = ap (λ (p : GridProblem). p.gutters) same ∙ c.new-grid.ensures.gutters ∙ c.in_ok-copy_of.ensures;
       height = ap (λ (p : GridProblem). p.height) same ∙ c.new-grid.ensures.height;
-      round = subst (λ (p : GridProblem). HaveFeet p.boxes p.height (map (λ (window : Window). window.rows) c.in_ok-windows.windows.items)) (sym same) found.round;
+      median = ap (λ (p : GridProblem). p.median) same ∙ c.new-grid.ensures.median;
+      round = subst (λ (p : GridProblem). HaveFeet p.boxes p.height (deepest p.median) (map (λ (window : Window). window.rows) c.in_ok-windows.windows.items)) (sym same) found.round;
       searched = subst (λ (p : GridProblem). All (IsSearchedWindow p) c.in_ok-windows.windows.items) (sym same) found.searched;
-      ending = none_yet c.args.kept.now.boxes c.args.gutters.now c.args.height (characters_of c.args.kept.now) c.first_windows.new.grid.alive c.new-lines.result alive c.new-lines.ensures.empty;
+      ending = none_yet c.args.kept.now.boxes c.args.gutters.now c.args.height c.args.kept.now.median (characters_of c.args.kept.now) c.first_windows.new.grid.alive c.new-lines.result alive c.new-lines.ensures.empty;
       ready = c.in_ok-windows.ensures.ready;
     }
 
@@ -34,9 +35,9 @@ returns-then-key-eq0 g c =
     let start : List ℕ = characters_of c.args.kept.now in
     let key = c.greatest_key-key.result in
     let answer = answer_of c.loop-alloc.grid c.loop-alloc.windows.items c.as_slice.result.now key c.as_slice.ensures.value so_far.round so_far.searched c.greatest_key-key.ensures.greatest c.greatest_key-key.ensures.reached in
-    let are : IsLineList boxes gutters c.args.height start c.loop-alloc.lines = ended boxes gutters c.args.height start c.loop-alloc.grid.alive c.loop-alloc.lines so_far.ending
-    (rw (so_far.boxes, so_far.gutters, so_far.height) at (no_line c.loop-alloc.grid key answer c.if-key-eq0.true)) in
-    record { ready = so_far.ready; lines = are; rising = members_rise boxes gutters c.args.height start c.loop-alloc.lines (characters_rise c.args.kept.now) are }
+    let are : IsLineList boxes gutters c.args.height c.args.kept.now.median start c.loop-alloc.lines = ended boxes gutters c.args.height c.args.kept.now.median start c.loop-alloc.grid.alive c.loop-alloc.lines so_far.ending
+    (rw (so_far.boxes, so_far.gutters, so_far.height, so_far.median) at (no_line c.loop-alloc.grid key answer c.if-key-eq0.true)) in
+    record { ready = so_far.ready; lines = are; rising = members_rise boxes gutters c.args.height c.args.kept.now.median start c.loop-alloc.lines (characters_rise c.args.kept.now) are }
 
 pub take_line-requires-clause-greatest : goal.take_line-requires-clause-greatest
 take_line-requires-clause-greatest g c =
@@ -57,17 +58,17 @@ loop-alloc-preserved g c =
     let again = c.in_ok-windows-2.ensures in
     let boxes : c.searched_again.new.grid.boxes ≡ c.loop-alloc.grid.boxes = ap (λ (p : GridProblem). p.boxes) again.same ∙ ap (λ (p : GridProblem). p.boxes) rest in
     let height : c.searched_again.new.grid.height ≡ c.loop-alloc.grid.height = ap (λ (p : GridProblem). p.height) again.same ∙ ap (λ (p : GridProblem). p.height) rest in
+    let median : c.searched_again.new.grid.median ≡ c.loop-alloc.grid.median = ap (λ (p : GridProblem). p.median) again.same ∙ ap (λ (p : GridProblem). p.median) rest in
     let rows : map (λ (window : Window). window.rows) c.in_ok-windows-2.windows.items ≡ map (λ (window : Window). window.rows) c.loop-alloc.windows.items = again.rows ∙ ap (map (λ (window : Window). window.rows)) c.as_slice-in-loop-alloc.ensures.value in
     record {
       boxes = boxes ∙ so_far.boxes;
       gutters = ap (λ (p : GridProblem). p.gutters) again.same ∙ ap (λ (p : GridProblem). p.gutters) rest ∙ so_far.gutters;
       height = height ∙ so_far.height;
-      round = subst (λ (bs : List Rect). HaveFeet bs c.searched_again.new.grid.height (map (λ (window : Window). window.rows) c.in_ok-windows-2.windows.items)) (sym boxes)
-          (subst (λ (h : ℕ). HaveFeet c.loop-alloc.grid.boxes h (map (λ (window : Window). window.rows) c.in_ok-windows-2.windows.items)) (sym height)
-          (subst (λ (all : List Rows). HaveFeet c.loop-alloc.grid.boxes c.loop-alloc.grid.height all) (sym rows) so_far.round));
+      median = median ∙ so_far.median;
+      round = rw (boxes, height, median) (subst (λ (all : List Rows). HaveFeet c.loop-alloc.grid.boxes c.loop-alloc.grid.height (deepest c.loop-alloc.grid.median) all) (sym rows) so_far.round);
       searched = subst (λ (p : GridProblem). All (IsSearchedWindow p) c.in_ok-windows-2.windows.items) (sym again.same) again.searched;
-      ending = one_more c.args.kept.now.boxes c.args.gutters.now c.args.height (characters_of c.args.kept.now) c.loop-alloc.grid.alive c.searched_again.new.grid.alive c.in_ok-line.line c.loop-alloc.lines c.push.new.self so_far.ending
-          (rw (so_far.boxes, so_far.gutters, so_far.height) at c.in_ok-line.ensures.best)
+      ending = one_more c.args.kept.now.boxes c.args.gutters.now c.args.height c.args.kept.now.median (characters_of c.args.kept.now) c.loop-alloc.grid.alive c.searched_again.new.grid.alive c.in_ok-line.line c.loop-alloc.lines c.push.new.self so_far.ending
+          (rw (so_far.boxes, so_far.gutters, so_far.height, so_far.median) at c.in_ok-line.ensures.best)
           (ap (λ (p : GridProblem). p.alive) again.same ∙ ap (λ (p : GridProblem). p.alive) rest)
           c.in_ok-push.ensures.grown;
       ready = again.ready;

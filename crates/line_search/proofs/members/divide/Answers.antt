@@ -15,11 +15,11 @@ loop-position-preserved c =
     let position = get_or c.args.alive.now i 0 in
     let same : c.as_slice-position-items.result.now ≡ alive = c.as_slice-position-items.ensures.same in
     let within : c.loop-position.position-index < length alive = omega (arith, c.loop-position-test.true, ap (λ (l : List ℕ). length l) same) in
-    let p : ℕ → Bool = λ q. is_of c.args.winner.now.slope c.args.winner.now.offset c.args.gutters.now c.args.winner.now.column (slice_get c.args.boxes.now q) in
+    let p : ℕ → Bool = λ q. is_of c.args.winner.now.slope c.args.winner.now.offset c.args.winner.now.depth c.args.gutters.now c.args.winner.now.column (slice_get c.args.boxes.now q) in
     let there : position < length c.args.boxes.now = All-get_or (λ (q : ℕ). q < length c.args.boxes.now) alive i 0 within c.requires.positions in
     let is : c.get-rect.result.now ≡ get_or c.args.boxes.now position c.get-rect.result.now = c.get-rect.ensures.item ∙ ap (λ (l : List ℕ). get_or c.args.boxes.now (get_or l i 0) c.get-rect.result.now) same in
     let read : slice_get c.args.boxes.now position ≡ Some c.get-rect.result.now = slice_get_read c.args.boxes.now (length c.args.boxes.now) position c.get-rect.result.now refl there is in
-    let tested : c.is_member.result ≡ p position = c.is_member.ensures ∙ ap (is_of c.args.winner.now.slope c.args.winner.now.offset c.args.gutters.now c.args.winner.now.column) (sym read) in
+    let tested : c.is_member.result ≡ p position = c.is_member.ensures ∙ ap (is_of c.args.winner.now.slope c.args.winner.now.offset c.args.winner.now.depth c.args.gutters.now c.args.winner.now.column) (sym read) in
     elim c.if-is_member.branch [
       | then-is_member+in_ok-push w ↦
           let passes : p position ≡ true = sym tested ∙ w.if-is_member.true in
@@ -37,10 +37,10 @@ loop-position-preserved c =
 
 pub returns-clause-members : goal.returns-clause-members
 returns-clause-members c =
-    c.loop-position.invariant.members ∙ ap (filter (λ (q : ℕ). is_of c.args.winner.now.slope c.args.winner.now.offset c.args.gutters.now c.args.winner.now.column (slice_get c.args.boxes.now q)))
+    c.loop-position.invariant.members ∙ ap (filter (λ (q : ℕ). is_of c.args.winner.now.slope c.args.winner.now.offset c.args.winner.now.depth c.args.gutters.now c.args.winner.now.column (slice_get c.args.boxes.now q)))
     (take_all c.loop-position.position-index c.args.alive.now (omega (arith, c.loop-position-test.false, ap (λ (l : List ℕ). length l) c.as_slice-position-items.ensures.same)))
 
 pub returns-clause-others : goal.returns-clause-others
 returns-clause-others c =
-    c.loop-position.invariant.others ∙ ap (filter (λ (q : ℕ). not (is_of c.args.winner.now.slope c.args.winner.now.offset c.args.gutters.now c.args.winner.now.column (slice_get c.args.boxes.now q))))
+    c.loop-position.invariant.others ∙ ap (filter (λ (q : ℕ). not (is_of c.args.winner.now.slope c.args.winner.now.offset c.args.winner.now.depth c.args.gutters.now c.args.winner.now.column (slice_get c.args.boxes.now q))))
     (take_all c.loop-position.position-index c.args.alive.now (omega (arith, c.loop-position-test.false, ap (λ (l : List ℕ). length l) c.as_slice-position-items.ensures.same)))

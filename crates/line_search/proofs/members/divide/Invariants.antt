@@ -5,6 +5,6 @@ use Rattle.line_search.proofs.members.divide.Given as goal
 
 abbrev pub invariant-loop-position : goal.invariant-loop-position
 invariant-loop-position l = record {
-  members : l.members ≡ filter (λ position. is_of l.winner.slope l.winner.offset l.gutters l.winner.column (slice_get l.boxes position)) (take l.position-index l.alive);
-  others : l.others ≡ filter (λ position. not (is_of l.winner.slope l.winner.offset l.gutters l.winner.column (slice_get l.boxes position))) (take l.position-index l.alive);
+  members : l.members ≡ filter (λ position. is_of l.winner.slope l.winner.offset l.winner.depth l.gutters l.winner.column (slice_get l.boxes position)) (take l.position-index l.alive);
+  others : l.others ≡ filter (λ position. not (is_of l.winner.slope l.winner.offset l.winner.depth l.gutters l.winner.column (slice_get l.boxes position))) (take l.position-index l.alive);
 }

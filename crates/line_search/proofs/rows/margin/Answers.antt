@@ -1,26 +1,9 @@
-use Rattle.std.proofs.Common.{◌≤◌, List, get_or, take, All, arith, subst}
-use Rattle.std.proofs.lemmas.List.{take_all}
-use Rattle.std.proofs.lemmas.List.Elements.{All-more, All-weaker}
+use Rattle.std.proofs.Common.{List, get_or}
 use Rattle.layout_geom.specs.declared.rect.Rect.{Rect}
-use Rattle.line_quality.specs.Points.{middle_of}
 use Rattle.line_search.proofs.Margins.{margin_of}
 use Rattle.line_search.proofs.rows.margin.Goals as goal
 
-pub loop-rect-preserved : goal.loop-rect-preserved
-loop-rect-preserved c =
-    let boxes : List Rect = c.args.boxes.now in
-    let i = c.loop-rect.rect-index in
-    let r : Rect = c.rect-item.result in
-    let here : middle_of (get_or boxes i r) ≤ c.max-farthest.result = subst (λ (box : Rect). middle_of box ≤ c.max-farthest.result) c.rect-item.is (omega (arith, c.middle.ensures.value, c.max-farthest.ensures)) in
-    record {
-      farthest = All-more (λ (box : Rect). middle_of box ≤ c.max-farthest.result) boxes i r c.loop-rect-test.true
-          (All-weaker (λ (box : Rect). middle_of box ≤ c.loop-rect.farthest) (λ (box : Rect). middle_of box ≤ c.max-farthest.result) (λ box low. omega (arith, low, c.max-farthest.ensures)) (take i boxes) c.loop-rect.invariant.farthest)
-          here;
-      small = omega (arith, c.middle.ensures.value, r.sides.wide, r.sides.right, c.max-farthest.ensures, c.loop-rect.invariant.small);
-    }
-
 pub returns-clause-margin : goal.returns-clause-margin
-returns-clause-margin c = λ k d within slope offset in_slopes some.
+returns-clause-margin c = λ k d within slope offset depth in_slopes some.
     let boxes : List Rect = c.args.boxes.now in
-    let all : All (λ r. middle_of r ≤ c.loop-rect.farthest) boxes = subst (λ (xs : List Rect). All (λ r. middle_of r ≤ c.loop-rect.farthest) xs) (take_all c.loop-rect.rect-index boxes c.loop-rect-test.false) c.loop-rect.invariant.farthest in
-    margin_of (get_or boxes k d) c.loop-rect.farthest (all k d within) slope offset in_slopes some
+    margin_of (get_or boxes k d) c.farthest.result (c.farthest.ensures.farthest k d within) slope offset depth in_slopes some

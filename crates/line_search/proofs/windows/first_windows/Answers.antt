@@ -3,6 +3,7 @@ use Rattle.std.proofs.lemmas.List.{take_all}
 use Rattle.box_search.specs.Search.{IsGreatestKey}
 use Rattle.line_search.specs.declared.rows.Rows.{Rows}
 use Rattle.line_search.specs.declared.windows.Window.{Window}
+use Rattle.line_search.specs.Lines.{deepest}
 use Rattle.line_search.specs.Problem.{GridProblem, grid_numbers, IsGridKey}
 use Rattle.line_search.specs.Windows.{within, IsSearchedWindow, HaveFeet}
 use Rattle.line_search.proofs.Gathered.{rows_more, searched_more}
@@ -24,7 +25,7 @@ loop-rows-preserved g c =
 
 pub returns-clause-round : goal.returns-clause-round
 returns-clause-round g c =
-    let h : HaveFeet c.as_slice.result.now c.height.result c.in_ok-all.all.items = c.in_ok-all.ensures in
+    let h : HaveFeet c.as_slice.result.now c.height.result c.deepest.result c.in_ok-all.all.items = c.in_ok-all.ensures in
     let boxes : c.as_slice.result.now ≡ c.args.grid.now.boxes = c.as_slice.ensures.same ∙ c.boxes.ensures in
     let all : map (λ (window : Window). window.rows) c.loop-rows.windows.items ≡ c.in_ok-all.all.items = c.loop-rows.invariant.rows ∙ take_all c.loop-rows.rows-index c.as_slice-rows-items.result.now c.loop-rows-test.false ∙ c.as_slice-rows-items.ensures.value in
-    subst (λ (rows : List Rows). HaveFeet c.args.grid.now.boxes c.args.grid.now.height rows) (sym all) (rw (boxes, c.height.ensures) at h)
+    subst (λ (rows : List Rows). HaveFeet c.args.grid.now.boxes c.args.grid.now.height (deepest c.args.grid.now.median) rows) (sym all) (rw (boxes, c.height.ensures, c.deepest.ensures) at h)

@@ -12,5 +12,5 @@ returns c =
     let boxes = ap (λ (q : GridProblem). q.boxes) c.self.view_is in
     let gutters = ap (λ (q : GridProblem). q.gutters) c.self.view_is in
     let alive = ap (λ (q : GridProblem). q.alive) c.self.view_is in
-    taken_line p c.args.key c.requires.high c.requires.greatest c.requires.some c.point_of-slope.result.0 c.point_of-slope.result.1 c.point_of-slope.ensures c.score_at-score.result.score c.score_at-score.result.column c.in_ok-division.division
+    taken_line p c.args.key c.requires.high c.requires.greatest c.requires.some c.point_of-slope.result.0 c.point_of-slope.result.1 c.point_of-slope.result.2 c.point_of-slope.ensures c.score_at-score.result.score c.score_at-score.result.column c.in_ok-division.division
     (rw (boxes, gutters, alive) at c.score_at-score.ensures.score) (rw (boxes, gutters, alive) at c.in_ok-division.ensures.members) (rw (boxes, gutters, alive) at c.in_ok-division.ensures.others)

@@ -30,7 +30,7 @@ invariant_of-self c =
     let winner = c.in_ok-winner.field-0.winner in
     let limits : IsWithinLimits p = subst IsWithinLimits c.self.view_is c.self.invariant in
     subst (λ (q : GridProblem). IsWithinLimits (record q { alive = c.in_ok-winner.field-0.division.others })) (sym c.self.view_is)
-    (rest_within p.height p.boxes p.gutters p.alive _ (λ (position : ℕ). not (is_of winner.slope winner.offset p.gutters winner.column (slice_get p.boxes position))) limits c.in_ok-winner.ensures.others)
+    (rest_within p.height p.median p.boxes p.gutters p.alive _ (λ (position : ℕ). not (is_of winner.slope winner.offset winner.depth p.gutters winner.column (slice_get p.boxes position))) limits c.in_ok-winner.ensures.others)
 
 pub returns-clause-best : goal.returns-clause-best
 returns-clause-best c =
@@ -41,7 +41,7 @@ returns-clause-best c =
     subst (λ (xs : List Rect). IsLeastRound xs taken.division.members c.least_round-bbox.result) (c.as_slice.ensures.same ∙ boxes)
     (subst (λ (xs : List ℕ). IsLeastRound c.as_slice.result.now xs c.least_round-bbox.result) c.as_slice-2.ensures.same c.least_round-bbox.ensures) in
     best_is p c.args.key c.requires.greatest taken.winner taken.division _ c.in_ok-winner.ensures
-    (slope_fits p c.args.key _ _ _ c.in_ok-winner.ensures) (offset_fits p c.args.key _ _ _ c.requires.high c.in_ok-winner.ensures) refl round
+    (slope_fits p c.args.key _ _ _ c.in_ok-winner.ensures) (offset_fits p c.args.key _ _ _ c.requires.high c.in_ok-winner.ensures) refl refl round
 
 pub returns-clause-rest : goal.returns-clause-rest
 returns-clause-rest c =
