@@ -15,7 +15,7 @@ pub struct Mark {
     pub depth: u8,
 }
 
-/// TextBuffer lines, each named by its place.
+/// Text lines, each named by its place.
 pub type Marks = Items<Mark>;
 
 /// What was found on a page: what its document tells.
