@@ -1,5 +1,5 @@
--- The element of a text line: its box and its baseline.
-use Rattle.std.specs.Prelude.{ℕ, ◌+◌, ◌/◌, ◌%◌, ℤ, pos, negsuc, ◌-ℤ◌, unsigned_abs, List, [], ◌∷◌, codes}
+-- The element of a text line: its box, its baseline and the line of its descenders.
+use Rattle.std.specs.Prelude.{ℕ, ◌+◌, ◌/◌, ◌%◌, ℤ, pos, negsuc, ◌-ℤ◌, unsigned_abs, List, [], ◌∷◌, codes, decimal, ◌==◌, if◌then◌else◌}
 use Rattle.std.specs.Prelude.{Option, Some, None}
 use Rattle.std.specs.List.{slice_get}
 use Rattle.std.specs.Fmt.{signed_decimal}
@@ -25,6 +25,14 @@ slope_text slope = joined_pieces (sign_text slope ∷ codes "0." ∷ three_digit
 abbrev pub constant_of : Mark → ℤ
 constant_of mark = height_at mark.slope mark.offset mark.bbox.x0 -ℤ pos mark.bbox.y1
 
+-- How many rows below the baseline the line of the descenders lies.
+abbrev pub descent_text : ℕ → List ℕ
+descent_text depth = joined_pieces (codes "; x_depth " ∷ decimal depth ∷ [])
+
+-- The same, where the two are not one line.
+unfoldable pub depth_text : ℕ → List ℕ
+depth_text depth = if depth == 0 then [] else descent_text depth
+
 -- A text line, by its number.
 abbrev pub mark_line : ℕ → ℕ → Mark → List ℕ
 mark_line page number mark =
@@ -34,6 +42,7 @@ mark_line page number mark =
     ∷ slope_text mark.slope
     ∷ codes " "
     ∷ signed_decimal (constant_of mark)
+    ∷ depth_text mark.depth
     ∷ codes "'></span>\n"
     ∷ [])
 

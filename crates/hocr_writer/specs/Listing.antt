@@ -1,9 +1,10 @@
 -- The listing of a page's text lines, and the layouts that can be written.
-use Rattle.std.specs.Prelude.{◌≡◌, ℕ, ◌+◌, ◌<◌, List, [], ◌∷◌, length, slice_index, All}
+use Rattle.std.specs.Prelude.{◌≡◌, ℕ, ◌+◌, ◌<◌, ◌≤◌, List, [], ◌∷◌, length, slice_index, All}
 use Rattle.std.specs.List.{range_with_len}
 use Rattle.layout_geom.specs.declared.area.Area.{Area}
 use Rattle.layout_geom.specs.declared.order.Order.{Order}
 use Rattle.layout_geom.specs.declared.order.Order.TheVariants.{Topological, Cycle}
+use Rattle.line_quality.specs.declared.limits.TheConstants.{MAX_DEPTH}
 use Rattle.line_quality.specs.Points.{IsSlope, IsOffset}
 use Rattle.hocr_writer.specs.declared.layout.Layout.{Layout}
 use Rattle.hocr_writer.specs.declared.layout.Mark.{Mark}
@@ -37,10 +38,11 @@ abbrev pub SplitListing : ℕ → ℕ → List Area → Type 0
 SplitListing from end [] = from ≡ end
 SplitListing from end (area ∷ areas) = (area.first ≡ from) × SplitListing (from + area.count) end areas
 
--- The slope and the offset of a line are those of a grid.
+-- The slope, the offset and the depth of a line are those of a grid.
 pub record IsMark (mark : Mark) : Type 0 where
   pub slope : IsSlope mark.slope
   pub offset : IsOffset mark.offset
+  pub depth : mark.depth ≤ MAX_DEPTH
 
 -- A layout that can be written.
 pub record IsWholeLayout (layout : Layout) : Type 0 where

@@ -118,6 +118,7 @@ fn put_document(text: &mut TextBuffer, layout: &Layout) -> Result<(), OutOfMemor
 /// the white rectangles, then the gutters, and then the areas in the order of the listing, each with
 /// its half-open `bbox` of pixels. An area holds its lines, each with its `baseline`: the slope, with
 /// three decimals, and how far below the bottom edge of the line's box it begins at the left edge.
+/// Where the line of its descenders lies below the baseline, `x_depth` says by how many rows.
 ///
 /// The text is ASCII where the name of the image is, and each of its lines ends with one line feed.
 ///

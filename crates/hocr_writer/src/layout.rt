@@ -6,14 +6,16 @@ use layout_geom::{Areas, Items, Name, Order, Rect, Rects};
 pub struct Mark {
     /// The least rectangle round the boxes of the line: its `bbox`, in pixels.
     pub bbox: Rect,
-    /// The slope of its baseline in thousandths, from -32 to 32. It sinks to the right where it is positive.
+    /// The slope of its baseline in thousandths, from `LEAST_SLOPE` to `MAX_SLOPE`. It sinks to the right where it is positive.
     pub slope: i8,
-    /// The height of its baseline at the left edge of the page, in rows from the top: from -300 to
-    /// 300 below the foot of the highest page.
+    /// The height of its baseline at the left edge of the page, in rows from the top: from
+    /// `LEAST_OFFSET` to `MAX_OFFSET`.
     pub offset: i16,
+    /// How far the line of its descenders lies below its baseline, in rows: from 0 to `MAX_DEPTH`.
+    pub depth: u8,
 }
 
-/// TextBuffer lines, each named by its place.
+/// Text lines, each named by its place.
 pub type Marks = Items<Mark>;
 
 /// What was found on a page: what its document tells.

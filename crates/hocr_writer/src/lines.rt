@@ -1,6 +1,6 @@
-//! The element of a text line: its box and its baseline.
+//! The element of a text line: its box, its baseline and the line of its descenders.
 ghost use Rattle.std.specs.Prelude.{◌≡◌, ◌++◌, OnOk};
-ghost use Rattle.hocr_writer.specs.Lines.{sign_text, slope_text, constant_of, mark_line};
+ghost use Rattle.hocr_writer.specs.Lines.{sign_text, slope_text, constant_of, descent_text, depth_text, mark_line};
 
 use crate::boxes::put_box_front;
 use crate::layout::Mark;
@@ -38,6 +38,27 @@ fn constant(mark: Mark) -> i32
     height_at(mark.slope, mark.offset, mark.bbox.x0()) - mark.bbox.y1() as i32
 }
 
+// How many rows below the baseline the line of the descenders lies.
+fn put_descent(text: &mut TextBuffer, depth: u8) -> Result<(), OutOfMemory>
+    ensures grown { OnOk result (text.new ≡ text.old ++ descent_text depth) }
+{
+    text.push(b"; x_depth ")?;
+    text.push_number(depth)?;
+    Ok(())
+}
+
+// The same, where the two are not one line.
+#[tactic(auto, using(crate::proofs::Joined::growing), unfolding(crate::specs::Lines::depth_text))]
+fn put_depth(text: &mut TextBuffer, depth: u8) -> Result<(), OutOfMemory>
+    ensures grown { OnOk result (text.new ≡ text.old ++ depth_text depth) }
+{
+    if depth == 0 {
+        Ok(())
+    } else {
+        put_descent(text, depth)
+    }
+}
+
 /// A text line of a number.
 pub fn put_mark(
     text: &mut TextBuffer,
@@ -58,6 +79,7 @@ pub fn put_mark(
     put_slope(text, mark.slope)?;
     text.push(b" ")?;
     text.push_number(constant(mark))?;
+    put_depth(text, mark.depth)?;
     text.push(b"'></span>\n")?;
     Ok(())
 }

@@ -15,8 +15,8 @@ struct Case {
     image: &'static [u8],
     whites: &'static [Sides],
     gutters: &'static [Sides],
-    // The box, the slope and the offset of each line.
-    lines: &'static [(Sides, i8, i16)],
+    // The box, the slope, the offset and the depth of each line.
+    lines: &'static [(Sides, i8, i16, u8)],
     is_cycle: bool,
     order: &'static [u32],
     // The first position, the count and the box of each area.
@@ -37,7 +37,10 @@ const SLANTED_LINES: Case = Case {
     image: b"scan.pbm",
     whites: &[],
     gutters: &[],
-    lines: &[([0, 20, 1010, 40], 10, 30), ([0, 20, 1010, 40], -10, 41)],
+    lines: &[
+        ([0, 20, 1010, 40], 10, 30, 0),
+        ([0, 20, 1010, 40], -10, 41, 0),
+    ],
     is_cycle: false,
     order: &[1, 0],
     areas: &[(0, 1, [0, 20, 1010, 40]), (1, 1, [0, 20, 1010, 40])],
@@ -67,9 +70,9 @@ const CYCLE: Case = Case {
     whites: &[[0, 10, 100, 20], [70, 0, 80, 60]],
     gutters: &[[70, 0, 80, 60]],
     lines: &[
-        ([0, 0, 60, 10], 0, 10),
-        ([0, 20, 60, 30], 32, 31),
-        ([40, 40, 60, 50], -32, 50),
+        ([0, 0, 60, 10], 0, 10, 0),
+        ([0, 20, 60, 30], 32, 31, 0),
+        ([40, 40, 60, 50], -32, 50, 0),
     ],
     is_cycle: true,
     order: &[2, 0],
@@ -92,7 +95,32 @@ const CYCLE: Case = Case {
 page 100 60\nblack 0\ncomponents 12\nmedian 10\nrectangles 2\ngutters 1\nlines 3\nareas 2\norder cycle 2 0\n",
 };
 
-const CASES: [Case; 2] = [SLANTED_LINES, CYCLE];
+// Five letters, of which two have tails: the line of the tails lies 4 rows below the baseline, at the bottom edge of the box.
+const LETTERS_WITH_TAILS: Case = Case {
+    name: "letters with tails",
+    page: 0,
+    size: [110, 60],
+    black: 1080,
+    image: b"",
+    whites: &[],
+    gutters: &[],
+    lines: &[([10, 10, 100, 34], 0, 30, 4)],
+    is_cycle: false,
+    order: &[0],
+    areas: &[(0, 1, [10, 10, 100, 34])],
+    order_text: "0 topological",
+    element: "\
+<div class='ocr_page' id='page_0' title='bbox 0 0 110 60; ppageno 0; x_black 1080'>\n\
+<div class='ocr_carea' id='area_0_0' title='bbox 10 10 100 34'>\n\
+<span class='ocr_line' id='line_0_0' title='bbox 10 10 100 34; baseline 0.000 -4; x_depth 4'></span>\n\
+</div>\n\
+</div>\n",
+    summary: b"\
+page 110 60\nblack 1080\ncomponents 12\nmedian 10\nrectangles 0\ngutters 0\n\
+lines 1\nareas 1\norder topological\n",
+};
+
+const CASES: [Case; 3] = [SLANTED_LINES, CYCLE, LETTERS_WITH_TAILS];
 
 // The whole document of a case.
 fn document(alloc: Global, case: &Case) -> Result<String, Fail> {
@@ -118,13 +146,14 @@ fn boxes(alloc: Global, sides: &[Sides]) -> Result<Rects, Fail> {
     Ok(boxes)
 }
 
-fn marks(alloc: Global, lines: &[(Sides, i8, i16)]) -> Result<Marks, Fail> {
+fn marks(alloc: Global, lines: &[(Sides, i8, i16, u8)]) -> Result<Marks, Fail> {
     let mut marks = Marks::new(alloc);
-    for (sides, slope, offset) in lines {
+    for (sides, slope, offset, depth) in lines {
         marks.push(Mark {
             bbox: rect(sides)?,
             slope: *slope,
             offset: *offset,
+            depth: *depth,
         })?;
     }
     Ok(marks)
@@ -209,15 +238,15 @@ fn summaries_are_as_the_format_says(rt: HostRuntime) -> Result<(), Fail> {
 fn layouts_with_a_gap_or_a_wrong_number_are_not_whole(rt: HostRuntime) -> Result<(), Fail> {
     let alloc = rt.alloc();
     let page: Sides = [0, 0, 10, 10];
-    let two: &[(Sides, i8, i16)] = &[(page, 0, 10), (page, 0, 10)];
+    let two: &[(Sides, i8, i16, u8)] = &[(page, 0, 10, 0), (page, 0, 10, 0)];
     let whole: &[(u32, u32, Sides)] = &[(0, 1, page), (1, 1, page)];
     let cases: [(
-        &[(Sides, i8, i16)],
+        &[(Sides, i8, i16, u8)],
         bool,
         &[u32],
         &[(u32, u32, Sides)],
         bool,
-    ); 11] = [
+    ); 12] = [
         (two, false, &[1, 0], whole, true),
         (two, true, &[1], whole, true),
         (two, false, &[0, 0], whole, false),
@@ -228,14 +257,21 @@ fn layouts_with_a_gap_or_a_wrong_number_are_not_whole(rt: HostRuntime) -> Result
         (two, false, &[0, 1], &[(1, 1, page), (0, 1, page)], false),
         (two, false, &[0, 1], &[(0, 2, page), (1, 1, page)], false),
         (
-            &[(page, 33, 10), (page, 0, 10)],
+            &[(page, 33, 10, 0), (page, 0, 10, 0)],
             false,
             &[0, 1],
             whole,
             false,
         ),
         (
-            &[(page, 0, 10), (page, 0, -301)],
+            &[(page, 0, 10, 0), (page, 0, -301, 0)],
+            false,
+            &[0, 1],
+            whole,
+            false,
+        ),
+        (
+            &[(page, 0, 10, 64), (page, 0, 10, 0)],
             false,
             &[0, 1],
             whole,

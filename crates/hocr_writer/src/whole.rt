@@ -4,6 +4,7 @@ ghost use Rattle.hocr_writer.specs.Listing.{AreDistinct, NamesLines, SplitListin
 
 use crate::layout::{Layout, Mark};
 use layout_geom::{Area, Order};
+use line_quality::{LEAST_OFFSET, LEAST_SLOPE, MAX_DEPTH, MAX_OFFSET, MAX_SLOPE};
 
 /// Whether all numbers are below a count.
 fn are_below(numbers: &[u32], count: usize) -> bool
@@ -58,17 +59,22 @@ fn split_listing(areas: &[Area], count: usize) -> bool
     end == count
 }
 
-/// Whether the slope and the offset of a line are those of a grid.
+/// Whether the slope, the offset and the depth of a line are those of a grid.
 fn is_mark(mark: &Mark) -> bool
     ensures { IsTrue result ↔ IsMark mark.now }
 {
-    -32 <= mark.slope && mark.slope <= 32 && -300 <= mark.offset && mark.offset <= 8492
+    LEAST_SLOPE <= mark.slope
+        && mark.slope <= MAX_SLOPE
+        && LEAST_OFFSET <= mark.offset
+        && mark.offset <= MAX_OFFSET
+        && mark.depth <= MAX_DEPTH
 }
 
 impl Layout {
     /// Whether the layout can be written: its order has each line once, or its cycle none but the
     /// lines; its areas split the listing from its front to its end without a gap; and each slope is
-    /// from -32 to 32, each offset from -300 to 8492.
+    /// from `LEAST_SLOPE` to `MAX_SLOPE`, each offset from `LEAST_OFFSET` to `MAX_OFFSET`, and each
+    /// depth at most `MAX_DEPTH`.
     ///
     /// Time grows with the square of the number of lines. It takes no memory.
     pub fn is_whole(&self) -> bool

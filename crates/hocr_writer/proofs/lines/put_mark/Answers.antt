@@ -9,4 +9,4 @@ returns c =
     let wide : FitsSigned w32 c.constant.result = search in
     let slope = rw (to_z-of_z w8 c.args.mark.slope narrow) at c.in_ok-put_slope.ensures.grown in
     let constant = rw (to_z-of_z w32 c.constant.result wide, c.constant.ensures) at c.in_ok-push_number.ensures.grown in
-    record { grown = rw (c.in_ok-push-3.ensures.grown, constant, c.in_ok-push-2.ensures.grown, slope, c.in_ok-push.ensures.grown, c.in_ok-put_box_front.ensures.grown) (simp growing) }
+    record { grown = rw (c.in_ok-push-3.ensures.grown, c.in_ok-put_depth.ensures.grown, constant, c.in_ok-push-2.ensures.grown, slope, c.in_ok-push.ensures.grown, c.in_ok-put_box_front.ensures.grown) (simp growing) }
