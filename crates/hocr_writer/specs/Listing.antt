@@ -1,11 +1,10 @@
 -- The listing of a page's text lines, and the layouts that can be written.
-use Rattle.std.specs.Prelude.{◌≡◌, ℕ, ◌+◌, ◌<◌, ◌≤◌, List, [], ◌∷◌, length, slice_index, All}
+use Rattle.std.specs.Prelude.{◌≡◌, ℕ, ◌+◌, ◌<◌, List, [], ◌∷◌, length, slice_index, All}
 use Rattle.std.specs.List.{range_with_len}
 use Rattle.layout_geom.specs.declared.area.Area.{Area}
 use Rattle.layout_geom.specs.declared.order.Order.{Order}
 use Rattle.layout_geom.specs.declared.order.Order.TheVariants.{Topological, Cycle}
-use Rattle.line_quality.specs.declared.limits.TheConstants.{MAX_DEPTH}
-use Rattle.line_quality.specs.Points.{IsSlope, IsOffset}
+use Rattle.line_quality.specs.Points.{IsSlope, IsOffset, IsDepth}
 use Rattle.hocr_writer.specs.declared.layout.Layout.{Layout}
 use Rattle.hocr_writer.specs.declared.layout.Mark.{Mark}
 
@@ -42,7 +41,7 @@ SplitListing from end (area ∷ areas) = (area.first ≡ from) × SplitListing (
 pub record IsMark (mark : Mark) : Type 0 where
   pub slope : IsSlope mark.slope
   pub offset : IsOffset mark.offset
-  pub depth : mark.depth ≤ MAX_DEPTH
+  pub depth : IsDepth mark.depth
 
 -- A layout that can be written.
 pub record IsWholeLayout (layout : Layout) : Type 0 where

@@ -62,35 +62,35 @@ round_all boxes whole positions all k d within = at (get_or positions k d)
       | inr none ↦ rw none.1 tt
     ]
 
-module _ (boxes gutters : List Rect) (height : ℕ) (whole : Rect) (all : All (Encloses whole) boxes) where
-  line_inside : (alive : List ℕ) (line : Line) → IsBestLine boxes gutters height alive line → Encloses whole line.bbox
+module _ (boxes gutters : List Rect) (height median : ℕ) (whole : Rect) (all : All (Encloses whole) boxes) where
+  line_inside : (alive : List ℕ) (line : Line) → IsBestLine boxes gutters height median alive line → Encloses whole line.bbox
   line_inside alive line best = (best.bbox).least whole (round_all boxes whole line.members all)
 
-  lines_inside : (alive : List ℕ) (lines : List Line) → IsLineList boxes gutters height alive lines → All (λ line. Encloses whole line.bbox) lines
+  lines_inside : (alive : List ℕ) (lines : List Line) → IsLineList boxes gutters height median alive lines → All (λ line. Encloses whole line.bbox) lines
   lines_inside alive [] list = All-nil (λ (line : Line). Encloses whole line.bbox)
   lines_inside alive (line ∷ lines) list =
       All-cons (λ (line : Line). Encloses whole line.bbox) line lines (line_inside alive line list.0) (lines_inside (without line.members alive) lines list.1)
 
   -- the boxes of the numbered lines lie on the page
-  pub numbered_inside : (alive : List ℕ) (lines : List Line) (marks : List Mark) → IsLineList boxes gutters height alive lines → IsNumbered lines marks → All (Encloses whole) (map box_of marks)
+  pub numbered_inside : (alive : List ℕ) (lines : List Line) (marks : List Mark) → IsLineList boxes gutters height median alive lines → IsNumbered lines marks → All (Encloses whole) (map box_of marks)
   numbered_inside alive lines marks list is =
       rw is.shown
       (All-map (Encloses whole) box_of (map mark_of is.numbered)
       (All-map (λ (mark : Mark). Encloses whole mark.bbox) mark_of is.numbered
       (All-permutation (λ (line : Line). Encloses whole line.bbox) lines is.numbered is.rearranged (lines_inside alive lines list))))
 
-module _ (boxes gutters : List Rect) (height : ℕ) (high : height ≤ 8192) where
-  line_mark : (alive : List ℕ) (line : Line) → IsBestLine boxes gutters height alive line → IsMark (mark_of line)
+module _ (boxes gutters : List Rect) (height median : ℕ) (high : height ≤ 8192) where
+  line_mark : (alive : List ℕ) (line : Line) → IsBestLine boxes gutters height median alive line → IsMark (mark_of line)
   line_mark alive line best =
       let point = (best.admissible).scored.point in
-      record { slope = point.slope_in; offset = record { low = point.low; high = omega (arith, ints, point.high) } }
+      record { slope = point.slope_in; offset = record { low = point.low; high = omega (arith, ints, point.high) }; depth = omega (arith, point.shallow) }
 
-  lines_on_grid : (alive : List ℕ) (lines : List Line) → IsLineList boxes gutters height alive lines → All (λ line. IsMark (mark_of line)) lines
+  lines_on_grid : (alive : List ℕ) (lines : List Line) → IsLineList boxes gutters height median alive lines → All (λ line. IsMark (mark_of line)) lines
   lines_on_grid alive [] list = All-nil (λ (line : Line). IsMark (mark_of line))
   lines_on_grid alive (line ∷ lines) list =
       All-cons (λ (line : Line). IsMark (mark_of line)) line lines (line_mark alive line list.0) (lines_on_grid (without line.members alive) lines list.1)
 
   -- the numbered lines are of the grid
-  pub numbered_on_grid : (alive : List ℕ) (lines : List Line) (marks : List Mark) → IsLineList boxes gutters height alive lines → IsNumbered lines marks → All IsMark marks
+  pub numbered_on_grid : (alive : List ℕ) (lines : List Line) (marks : List Mark) → IsLineList boxes gutters height median alive lines → IsNumbered lines marks → All IsMark marks
   numbered_on_grid alive lines marks list is =
       rw is.shown (All-map IsMark mark_of is.numbered (All-permutation (λ (line : Line). IsMark (mark_of line)) lines is.numbered is.rearranged (lines_on_grid alive lines list)))

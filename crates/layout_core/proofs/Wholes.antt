@@ -69,5 +69,5 @@ whole_layout plan page layout is =
     record {
       order = named;
       areas = subst Q (listing_long layout.order (length layout.lines) named) (split boxes (listing layout.order (length layout.lines)) (2 * is.kept.median) 0 layout.areas is.areas_are);
-      marks = numbered_on_grid is.kept.boxes layout.gutters page.height high _ is.found layout.lines is.are_lines is.numbered;
+      marks = numbered_on_grid is.kept.boxes layout.gutters page.height is.kept.median high _ is.found layout.lines is.are_lines is.numbered;
     }

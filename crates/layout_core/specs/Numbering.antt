@@ -9,7 +9,7 @@ use Rattle.hocr_writer.specs.declared.layout.Mark.{Mark}
 
 -- What the document shows of a line.
 abbrev pub mark_of : Line → Mark
-mark_of line = record { bbox = line.bbox; slope = line.slope; offset = line.offset }
+mark_of line = record { bbox = line.bbox; slope = line.slope; offset = line.offset; depth = line.depth }
 
 -- The box of a line that is shown.
 abbrev pub box_of : Mark → Rect

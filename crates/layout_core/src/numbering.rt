@@ -23,6 +23,7 @@ fn mark_of_line(line: &Line) -> Mark
         bbox: line.bbox,
         slope: line.slope,
         offset: line.offset,
+        depth: line.depth,
     }
 }
 

@@ -193,9 +193,16 @@ fn three_spellings_of_a_picture_give_one_document(rt: HostRuntime) -> Result<(),
 }
 
 #[test]
-fn documents_have_slanted_lines_and_a_cycle_of_four(rt: HostRuntime) -> Result<(), Fail> {
+fn documents_have_slanted_lines_letters_with_tails_and_a_cycle_of_four(rt: HostRuntime) -> Result<(), Fail> {
     let sinking: &[Block] = &[[0, 20, 10, 30], [500, 25, 510, 35], [1000, 30, 1010, 40]];
     let rising: &[Block] = &[[1000, 20, 1010, 30], [500, 25, 510, 35], [0, 30, 10, 40]];
+    let tails: &[Block] = &[
+        [10, 10, 20, 30],
+        [30, 10, 40, 34],
+        [50, 10, 60, 30],
+        [70, 10, 80, 34],
+        [90, 10, 100, 30],
+    ];
     let cycle: &[Block] = &[
         [40, 0, 44, 10],
         [48, 0, 52, 10],
@@ -210,7 +217,7 @@ fn documents_have_slanted_lines_and_a_cycle_of_four(rt: HostRuntime) -> Result<(
         [4, 60, 6, 70],
         [8, 60, 10, 70],
     ];
-    let cases: [(&[Block], &[u8]); 3] = [
+    let cases: [(&[Block], &[u8]); 4] = [
         (
             sinking,
             b"\n<span class='ocr_line' id='line_0_0' title='bbox 0 20 1010 40; baseline 0.010 -10'></span>\n",
@@ -218,6 +225,10 @@ fn documents_have_slanted_lines_and_a_cycle_of_four(rt: HostRuntime) -> Result<(
         (
             rising,
             b"\n<span class='ocr_line' id='line_0_0' title='bbox 0 20 1010 40; baseline -0.010 1'></span>\n",
+        ),
+        (
+            tails,
+            b"\n<span class='ocr_line' id='line_0_0' title='bbox 10 10 100 34; baseline 0.000 -4; x_depth 4'></span>\n",
         ),
         (
             cycle,

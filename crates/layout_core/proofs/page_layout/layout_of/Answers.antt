@@ -52,7 +52,7 @@ areas_in-requires-clause-contained g c =
     let whole = c.page_rect-whole.result in
     let boxes = c.in_ok-kept.kept.boxes in
     let all = kept_inside held whole c.page_rect-whole.ensures boxes (c.in_ok-kept.ensures.kept held (holds_itself c.args.page.now)).boxes in
-    (whole, rw c.in_ok-boxes.ensures (numbered_inside boxes c.in_ok-gutters.gutters _ whole all _ c.in_ok-found.found c.in_ok-lines.lines c.in_ok-found.ensures.lines c.in_ok-lines.ensures))
+    (whole, rw c.in_ok-boxes.ensures (numbered_inside boxes c.in_ok-gutters.gutters _ _ whole all _ c.in_ok-found.found c.in_ok-lines.lines c.in_ok-found.ensures.lines c.in_ok-lines.ensures))
 
 pub returns-clause-layout : goal.returns-clause-layout
 returns-clause-layout g c =
