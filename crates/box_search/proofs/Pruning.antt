@@ -1,5 +1,5 @@
 -- Which nodes a search may drop.
-use Rattle.std.proofs.Common.{ℕ, ◌<◌, ◌≤◌, ◌⊎◌, List, All, Any, nat_lt, inl, inr, arith}
+use Rattle.std.proofs.Common.{ℕ, ◌≤◌, ◌⊎◌, List, All, Any, nat_lt, inl, inr, arith}
 use mathlib.Core.Logic.{dite}
 use native.Mathlib.Decide.{dec_le}
 use Rattle.std.proofs.lemmas.Bool.{lt-ltb}

@@ -52,3 +52,13 @@ module _ {W : Type 0} where
   pub record Reopens (old : Contents W) (lease : Lease W) (new : Contents W) : Type 0 where
     pub opened : IsPermutation (lease.node ∷ old.open_nodes) new.open_nodes
     pub leased : IsPermutation old.leased (entry_of lease ∷ new.leased)
+
+  -- the nodes above the key are open too
+  pub record Adds (old : Contents W) (nodes : List (Node W)) (seen : ℕ) (new : Contents W) : Type 0 where
+    pub opened : IsPermutation (above seen nodes ++ old.open_nodes) new.open_nodes
+    pub leased : new.leased ≡ old.leased
+
+  -- the lease has ended, and its node is gone
+  pub record Ends (old : Contents W) (lease : Lease W) (new : Contents W) : Type 0 where
+    pub opened : new.open_nodes ≡ old.open_nodes
+    pub leased : IsPermutation old.leased (entry_of lease ∷ new.leased)

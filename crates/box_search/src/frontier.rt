@@ -2,7 +2,7 @@
 ghost use Rattle.std.specs.Prelude.{◌≡◌, ◌+◌, ◌≤◌, [], length, IfOk, IfErr, OnOk, OnErr, Contains, vec_len, vec_capacity};
 ghost use Rattle.std.specs.Option.{option_to_list};
 ghost use Rattle.std.specs.BinaryHeap.{heap_items, heap_len, heap_capacity};
-ghost use Rattle.box_search.specs.Leasing.{entry_of, Takes, Finishes, Reopens};
+ghost use Rattle.box_search.specs.Leasing.{entry_of, Takes, Finishes, Reopens, Adds, Ends};
 
 use crate::heap::{Open, pop_greatest, push_above, push_in_room};
 use crate::lease::{Entry, Lease, Take, Unfinished};
@@ -128,6 +128,30 @@ impl<W: Drop> Frontier<W> {
         let Lease { number, node } = lease;
         remove_number(&mut self.leased, number);
         push_in_room(&mut self.open, node);
+    }
+
+    /// Opens the nodes whose bound is above `seen`, and drops the others. Its refusal is want of memory, which hands
+    /// the nodes back.
+    pub fn add(&mut self, nodes: Vec<Node<W>>, seen: u64) -> Result<(), Vec<Node<W>>>
+        ensures ok { OnOk result (Adds self.old nodes.items seen self.new) }
+        ensures err { OnErr result (self.new ≡ self.old) }
+        ensures nodes_returned { IfErr result (λ back. back ≡ nodes) }
+    {
+        match reserve(&mut self.open, &mut self.leased, nodes.len()) {
+            Err(OutOfMemory) => Err(nodes),
+            Ok(()) => {
+                push_above(&mut self.open, nodes, seen);
+                Ok(())
+            }
+        }
+    }
+
+    /// Ends a lease whose nodes went to another frontier. It can't fail, and takes no memory.
+    pub fn end(&mut self, lease: Lease<W>)
+        requires out { Contains self.old.leased (entry_of lease) }
+        ensures ends { Ends self.old lease self.new }
+    {
+        remove_number(&mut self.leased, lease.number);
     }
 
     /// How many nodes are open.

@@ -1,7 +1,8 @@
 -- Totals over lists, and entries told apart by their numbers.
-use Rattle.std.proofs.Common.{◌≡◌, ℕ, zero, suc, ◌+◌, ◌<◌, ◌≤◌, ◌≢◌, List, [], ◌∷◌, ◌++◌, Bool, true, false, cond, not, ◌&&◌, ◌||◌, eqb, set, sym, refl, ap, ◌∙◌, arith, subst}
-use Rattle.std.specs.Prelude.{filter, IsPermutation, sum_by, remove}
+use Rattle.std.proofs.Common.{◌≡◌, ℕ, zero, suc, ◌+◌, ◌<◌, ◌≤◌, ◌≢◌, List, [], ◌∷◌, ◌++◌, Bool, true, false, cond, not, ◌&&◌, ◌||◌, eqb, length, set, sym, refl, ap, ◌∙◌, arith, subst, ne_eqb}
+use Rattle.std.specs.Prelude.{All, filter, IsPermutation, sum_by, remove}
 use Rattle.std.proofs.lemmas.List.Sorted.{sum_by-IsPermutation, IsPermutation-refl, IsPermutation-sym, IsPermutation-trans, IsPermutation-cons, IsPermutation-remove}
+use Rattle.std.proofs.lemmas.List.Elements.{All-contains}
 use Rattle.std.proofs.lemmas.List.Sums.{sum_by-cons}
 use mathlib.Core.Option.{some, some-injective, some-ne-none}
 use mathlib.Core.Logic.{dite}
@@ -40,6 +41,10 @@ module _ {A : Type 0} where
   pub total_none : (f : A → ℕ) (xs : List A) → ((x : A) → IsItem xs x → f x ≡ 0) → total f xs ≡ 0
   total_none f [] none = refl
   total_none f (x ∷ xs) none = omega (arith, none x (0, refl), total_none f xs (λ y at. none y (suc at.0, at.1)))
+
+  pub total_ones : (xs : List A) → total (λ _. 1) xs ≡ length xs
+  total_ones [] = refl
+  total_ones (x ∷ xs) = omega (arith, total_ones xs)
 
   pub total_filter : (h : A → ℕ) (t : A → Bool) (xs : List A) → total h (filter t xs) ≡ total (λ x. cond (t x) (h x) 0) xs
   total_filter h t [] = refl
@@ -128,7 +133,7 @@ shape_same x y = dite (ℤ_discrete x.a0 y.a0)
     (λ n. no (λ e. n (ap (λ (s : Shape). s.a1) e))))
     (λ n. no (λ e. n (ap (λ (s : Shape). s.a0) e)))
 
-entry_same : (x y : Entry) → Dec (x ≡ y)
+pub entry_same : (x y : Entry) → Dec (x ≡ y)
 entry_same x y = dite (ℕ_discrete x.number y.number)
     (λ e0. dite (shape_same x.shape y.shape)
     (λ e1. dite (ℕ_discrete x.bound y.bound)
@@ -137,15 +142,15 @@ entry_same x y = dite (ℕ_discrete x.number y.number)
     (λ n. no (λ e. n (ap (λ (s : Entry). s.shape) e))))
     (λ n. no (λ e. n (ap (λ (s : Entry). s.number) e)))
 
-abbrev same_as : {P : Type 0} → Dec P → ℕ
+abbrev pub same_as : {P : Type 0} → Dec P → ℕ
 same_as (yes p) = 1
 same_as (no n) = 0
 
-counts_self : (e : Entry) (d : Dec (e ≡ e)) → same_as d ≡ 1
+pub counts_self : (e : Entry) (d : Dec (e ≡ e)) → same_as d ≡ 1
 counts_self e (yes p) = refl
 counts_self e (no n) = absurd (n refl)
 
-counted_item : (e : Entry) (xs : List Entry) → 0 < total (λ x. same_as (entry_same e x)) xs → IsItem xs e
+pub counted_item : (e : Entry) (xs : List Entry) → 0 < total (λ x. same_as (entry_same e x)) xs → IsItem xs e
 counted_item e [] l = absurd (omega arith)
 counted_item e (x ∷ xs) l = go (entry_same e x) l (counted_item e xs) where
   go : (d : Dec (e ≡ x)) → 0 < same_as d + total (λ y. same_as (entry_same e y)) xs → (0 < total (λ y. same_as (entry_same e y)) xs → IsItem xs e) → IsItem (x ∷ xs) e
@@ -181,3 +186,23 @@ permutation_of (x ∷ xs) ys same =
     let moved : IsPermutation ys (x ∷ rest) = IsPermutation-remove ys k x within (sym is) in
     let less : IsSameBag xs rest = λ h. let all = same h in let some' = permuted_total h ys (x ∷ rest) moved in omega arith in
     IsPermutation-trans (x ∷ xs) (x ∷ rest) ys (IsPermutation-cons x xs rest (permutation_of xs rest less)) (IsPermutation-sym ys (x ∷ rest) moved)
+
+-- no entry has the number
+pub none_numbered : (es : List Entry) (x : ℕ) → All (λ entry. entry.number ≢ x) es → total (numbered x) es ≡ 0
+none_numbered es x none = total_none (numbered x) es (λ e at. ap one_if (ne_eqb e.number x (All-contains (λ (entry : Entry). entry.number ≢ x) es e none (Contains-item es e at))))
+
+-- numbers that differ still do with one more entry, whose number was free
+pub numbers_more : (e : Entry) (es es' : List Entry) → All (λ entry. entry.number ≢ e.number) es → IsPermutation (e ∷ es) es' → NumbersDiffer es → NumbersDiffer es'
+numbers_more e es es' free moved differ x =
+    let before = differ x in
+    let sum = permuted_total (numbered x) (e ∷ es) es' moved in
+    dite (ℕ_discrete e.number x)
+    (λ (same : e.number ≡ x).
+    let none : total (numbered x) es ≡ 0 = subst (λ (n : ℕ). total (numbered n) es ≡ 0) same (none_numbered es e.number free) in
+    let one : numbered x e ≡ 1 = subst (λ (n : ℕ). numbered n e ≡ 1) same (numbered_self e) in
+    omega arith)
+    (λ apart. let none : numbered x e ≡ 0 = ap one_if (ne_eqb e.number x apart) in omega arith)
+
+-- and with one entry less
+pub numbers_fewer : (e : Entry) (es es' : List Entry) → IsPermutation es (e ∷ es') → NumbersDiffer es → NumbersDiffer es'
+numbers_fewer e es es' moved differ x = let before = differ x in let sum = permuted_total (numbered x) es (e ∷ es') moved in omega arith

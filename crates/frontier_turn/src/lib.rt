@@ -12,3 +12,4 @@ pub use law::each_step_keeps_the_rule;
 pub use pass::Pass;
 pub use shared::{Closed, Shared};
 pub use turn::Turn;
+pub use view::{Outline, Snapshot};
