@@ -71,5 +71,5 @@ hull_small outer r s first second =
     let wide : max r.x1 s.x1 - min r.x0 s.x0 ≤ outer.x1 - outer.x0 = omega (arith, first.left, first.right, second.left, second.right) in
     let high : max r.y1 s.y1 - min r.y0 s.y0 ≤ outer.y1 - outer.y0 = omega (arith, first.top, first.bottom, second.top, second.bottom) in
     let few = mul-le (max r.x1 s.x1 - min r.x0 s.x0) (max r.y1 s.y1 - min r.y0 s.y0)
-        (outer.x1 - outer.x0) (outer.y1 - outer.y0) wide high in
+    (outer.x1 - outer.x0) (outer.y1 - outer.y0) wide high in
     omega (arith, few, outer.sides.small)
