@@ -11,7 +11,5 @@ mod tests;
 mod words;
 
 pub use law::words_have_one_plan;
-pub use plan::{
-    MAX_DIGITS, MAX_NAME_BYTES, Plan, Program, USUAL_RECTS, USUAL_WORKERS, WordFault,
-};
+pub use plan::{MAX_DIGITS, MAX_NAME_BYTES, Plan, Program, USUAL_RECTS, USUAL_WORKERS, WordFault};
 pub use words::words_of;

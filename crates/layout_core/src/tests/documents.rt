@@ -193,7 +193,9 @@ fn three_spellings_of_a_picture_give_one_document(rt: HostRuntime) -> Result<(),
 }
 
 #[test]
-fn documents_have_slanted_lines_letters_with_tails_and_a_cycle_of_four(rt: HostRuntime) -> Result<(), Fail> {
+fn documents_have_slanted_lines_letters_with_tails_and_a_cycle_of_four(
+    rt: HostRuntime,
+) -> Result<(), Fail> {
     let sinking: &[Block] = &[[0, 20, 10, 30], [500, 25, 510, 35], [1000, 30, 1010, 40]];
     let rising: &[Block] = &[[1000, 20, 1010, 30], [500, 25, 510, 35], [0, 30, 10, 40]];
     let tails: &[Block] = &[
