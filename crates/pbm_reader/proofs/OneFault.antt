@@ -8,7 +8,7 @@ use Rattle.pbm_reader.specs.Spelling.{Spells, IsPage}
 use Rattle.pbm_reader.specs.Fault.{HasMagic, IsTruncated, IsInputTooLong, HasFaultWithin, HasFault, DecidesNothing}
 use Rattle.pbm_reader.proofs.FaultVerdicts.{fault_verdict, page_verdict}
 use Rattle.pbm_reader.proofs.Gaps.{some_is, none_some}
-use Rattle.pbm_reader.proofs.Settled.{settled}
+use Rattle.pbm_reader.proofs.Settled.{settled, shown}
 
 -- ---- within the limit
 
@@ -43,6 +43,7 @@ within_or_long input (faults.Truncated at) f = inl f
 within_or_long input (faults.Pixel at) f = inl f
 within_or_long input (faults.Trailing at) f = inl f
 within_or_long input faults.InputTooLong f = inr (refl, f)
+within_or_long input faults.TooManyImages f = inl f
 within_or_long input faults.ReadFault f = inl f
 within_or_long input faults.Memory f = inl f
 
@@ -56,6 +57,7 @@ has_fault input (faults.Truncated at) f = f
 has_fault input (faults.Pixel at) f = f
 has_fault input (faults.Trailing at) f = f
 has_fault input faults.InputTooLong f = absurd f
+has_fault input faults.TooManyImages f = f
 has_fault input faults.ReadFault f = f
 has_fault input faults.Memory f = f
 
@@ -69,8 +71,8 @@ not_long : (input : List ℕ) (fault : PageFault) → HasFaultWithin input fault
 not_long input fault f l =
     let whole = l.whole in
     let P : List ℕ → Type 0 = λ k. HasFaultWithin k fault in
-    l.undecided fault (λ rest. settled l.front l.behind rest fault l.len
-    (λ at e. let short = cut_len input fault at f e in omega (arith, short, ap length whole, length-append l.front l.behind, l.len, l.more)) (subst P whole f))
+    let uncut : (at : ℕ) → fault ≡ faults.Truncated at → ⊥ = λ at e. let short = cut_len input fault at f e in omega (arith, short, ap length whole, length-append l.front l.behind, l.len, l.more) in
+    l.undecided fault (λ rest. settled l.front l.behind rest fault (inl l.len) (shown l.front input fault (omega (arith, l.len)) uncut f) (subst P whole f))
 
 pub one_fault : (input : List ℕ) (f g : PageFault) → HasFault input f → HasFault input g → f ≡ g
 one_fault input f g x y = cases (within_or_long input f x) (within_or_long input g y)

@@ -13,7 +13,7 @@ use Rattle.pbm_reader.proofs.RasterWalk.{raster_step, wanted, spelled_reads}
 use Rattle.pbm_reader.proofs.RasterWalk.RasterState.{whole}
 use Rattle.pbm_reader.proofs.Verdict.{whole_stuck, done_stuck}
 
-no_tail : (tail : List ℕ) → MayFollow Raw tail → tail ≡ []
+pub no_tail : (tail : List ℕ) → MayFollow Raw tail → tail ≡ []
 no_tail [] f = refl
 no_tail (byte ∷ tail) f = absurd f
 

@@ -149,6 +149,7 @@ HasFaultWithin input (faults.Truncated at) = IsTruncated input at
 HasFaultWithin input (faults.Pixel at) = IsPixelFault input at
 HasFaultWithin input (faults.Trailing at) = IsTrailing input at
 HasFaultWithin input faults.InputTooLong = ⊥
+HasFaultWithin input faults.TooManyImages = ⊥
 HasFaultWithin input faults.ReadFault = ⊥
 HasFaultWithin input faults.Memory = ⊥
 
