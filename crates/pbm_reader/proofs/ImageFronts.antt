@@ -8,14 +8,15 @@ use Rattle.pbm_reader.specs.declared.form.Form.TheVariants.{Plain, Raw}
 use Rattle.pbm_reader.specs.declared.state.HeaderState.TheVariants.{Named}
 use Rattle.packed_rows.specs.Page.{Page}
 use Rattle.pbm_reader.specs.Spelling.{Spells, magic, IsSomeHeader}
-use Rattle.pbm_reader.specs.Fault.{Begins, HasMagic, HasFaultWithin, IsTrailing}
+use Rattle.pbm_reader.specs.Fault.{Begins, HasFaultWithin, IsTrailing}
 use Rattle.pbm_reader.specs.Images.{SpellsIn, AreImages, BeginsImage, FrontImages, behind_bytes, IsImageFault, HasImagesFault}
-use Rattle.pbm_reader.proofs.Splits.{goes_on}
+use Rattle.pbm_reader.proofs.Splits.{goes_on, second_is}
 use Rattle.pbm_reader.proofs.Machines.{IsRead, front_of, front_map}
 use Rattle.pbm_reader.proofs.HeaderWalk.{header_machine, is_header}
 use Rattle.pbm_reader.proofs.Settled.{IsShown, settled}
 use Rattle.pbm_reader.proofs.Judged.{judged_within}
 use Rattle.pbm_reader.proofs.RawImages.{raw_image, header_begins, form_begins, image_begins, one_name, image_trails, trailing_image}
+use Rattle.pbm_reader.proofs.OneFault.{letter_fault}
 use Rattle.pbm_reader.proofs.ImageFaults.{one_images_fault}
 
 -- ---- what stands at the front of the bytes
@@ -139,16 +140,6 @@ letter_front rest short i =
       length-append (magic Raw) h.gap,
     )
 
-letter_fault : HasFaultWithin (80 ∷ []) (faults.Magic 1)
-letter_fault = inr (refl, ([], refl), none)
-  where
-    shorter : (x y : ℕ) (xs : List ℕ) → 80 ∷ [] ≡ x ∷ y ∷ xs → ⊥
-    shorter x y xs e = omega (arith, ap length e)
-
-    none : HasMagic (80 ∷ []) → ⊥
-    none (inl m) = shorter 80 49 m.0 m.1
-    none (inr m) = shorter 80 52 m.0 m.1
-
 name_fault : HasFaultWithin (80 ∷ 52 ∷ []) (faults.Truncated 2)
 name_fault = record {
   end = refl;
@@ -175,10 +166,7 @@ letter_decides_nothing input pages images f some fewer fault decides =
     not_plain l e = omega (arith, ap length e)
 
     not_raw : (l : List ℕ) → 80 ∷ 52 ∷ [] ≡ 80 ∷ 49 ∷ l → ⊥
-    not_raw l e = omega (arith, second 80 52 80 49 [] l e)
-      where
-        second : (x y u v : ℕ) (k m : List ℕ) → x ∷ y ∷ k ≡ u ∷ v ∷ m → y ≡ v
-        second x y u v k m e = cc
+    not_raw l e = omega (arith, second_is 80 52 80 49 [] l e)
 
     differ : (a b : ℕ) → faults.Magic a ≡ faults.Truncated b → ⊥
     differ a b e = cc

@@ -10,6 +10,7 @@ use Rattle.packed_rows.specs.Page.{Page}
 use Rattle.pbm_reader.specs.Spelling.{Spells, magic}
 use Rattle.pbm_reader.specs.Fault.{Begins, HasFaultWithin}
 use Rattle.pbm_reader.specs.Images.{SpellsIn, AreImages, SpellsPages, ArePages, BeginsImage, FrontImages, behind_bytes, IsImageFault, HasFaultAfter, HasImagesFault, HasPagesFault}
+use Rattle.pbm_reader.proofs.Splits.{head_is, second_is}
 use Rattle.pbm_reader.proofs.Settled.{IsShown, shown, begins_moved}
 use Rattle.pbm_reader.proofs.Judged.{is_cut}
 use Rattle.pbm_reader.proofs.RawImages.{form_begins, image_begins, begins_more, one_name, same_front}
@@ -37,13 +38,6 @@ equal m n =
             | inr le ↦ inl (omega (arith, ge, le))
           ]
     ]
-
--- the first byte of some bytes, and the second
-head_is : (x u : ℕ) (l m : List ℕ) → x ∷ l ≡ u ∷ m → x ≡ u
-head_is x u l m e = cc
-
-second_is : (x y u v : ℕ) (l m : List ℕ) → x ∷ y ∷ l ≡ u ∷ v ∷ m → y ≡ v
-second_is x y u v l m e = cc
 
 names_plain : (bytes : List ℕ) → Begins (magic Plain) bytes ⊎ (Begins (magic Plain) bytes → ⊥)
 names_plain [] = inr (λ b. omega (arith, ap length b.1))

@@ -118,16 +118,9 @@ nothing_undecided fault decides =
     not_nil : (x : ℕ) (xs : List ℕ) → [] ≡ x ∷ xs → ⊥
     not_nil x xs e = cc
 
-pub letter_undecided : DecidesNothing (80 ∷ [])
-letter_undecided fault decides =
-    let now = decides [] in
-    let first : HasFault (80 ∷ []) (faults.Magic 1) = inr (refl, ([], refl), none) in
-    let e : fault ≡ faults.Magic 1 = one_fault (80 ∷ []) fault (faults.Magic 1) now first in
-    let later = subst (λ (f : PageFault). HasFault (80 ∷ 52 ∷ []) f) e (decides (52 ∷ [])) in
-    elim later [
-      | inl f ↦ omega (arith, f.0)
-      | inr f ↦ f.2 (inr ([], refl))
-    ]
+-- the letter of a name alone is no name
+pub letter_fault : HasFaultWithin (80 ∷ []) (faults.Magic 1)
+letter_fault = inr (refl, ([], refl), none)
   where
     shorter : (x y : ℕ) (xs : List ℕ) → 80 ∷ [] ≡ x ∷ y ∷ xs → ⊥
     shorter x y xs e = omega (arith, ap length e)
@@ -135,6 +128,16 @@ letter_undecided fault decides =
     none : HasMagic (80 ∷ []) → ⊥
     none (inl m) = shorter 80 49 m.0 m.1
     none (inr m) = shorter 80 52 m.0 m.1
+
+pub letter_undecided : DecidesNothing (80 ∷ [])
+letter_undecided fault decides =
+    let now = decides [] in
+    let e : fault ≡ faults.Magic 1 = one_fault (80 ∷ []) fault (faults.Magic 1) now letter_fault in
+    let later = subst (λ (f : PageFault). HasFault (80 ∷ 52 ∷ []) f) e (decides (52 ∷ [])) in
+    elim later [
+      | inl f ↦ omega (arith, f.0)
+      | inr f ↦ f.2 (inr ([], refl))
+    ]
 
 -- an input that goes on behind 268,435,456 bytes that spell a page or end too early
 pub long_fault : (front behind : List ℕ) → length front ≡ 268435456 → 0 < length behind → IsPage front ⊎ ((at : ℕ) × IsTruncated front at) → IsInputTooLong (front ++ behind)

@@ -13,12 +13,12 @@ use Rattle.pbm_reader.specs.Header.{next_state}
 use Rattle.pbm_reader.specs.Fault.{Begins, HasFaultWithin, IsTrailing}
 use Rattle.pbm_reader.specs.Images.{SpellsIn, AreImages, BeginsImage}
 use Rattle.pbm_reader.proofs.Gaps.{some_is, none_some}
-use Rattle.pbm_reader.proofs.Splits.{goes_on, nothing_behind}
+use Rattle.pbm_reader.proofs.Splits.{goes_on, nothing_behind, second_is}
 use Rattle.pbm_reader.proofs.Machines.{reached_once}
 use Rattle.pbm_reader.proofs.HeaderWalk.{header_reads, whole_width, whole_height}
 use Rattle.pbm_reader.proofs.Verdict.{verdict, raster_verdict, verdict_sized, whole_stuck}
 use Rattle.pbm_reader.proofs.FaultVerdicts.{fault_verdict, behind_verdict}
-use Rattle.pbm_reader.proofs.OnePage.{no_tail, one_page}
+use Rattle.pbm_reader.proofs.OnePage.{no_tail, one_page, size_is}
 
 -- ---- the names of the forms
 
@@ -44,10 +44,7 @@ image_begins bytes i = subst (λ (l : List ℕ). Begins (magic Raw) l) (sym i.wh
 
 -- no bytes begin with both names
 pub one_name : (bytes : List ℕ) → Begins (magic Plain) bytes → Begins (magic Raw) bytes → ⊥
-one_name bytes a b = omega (arith, second 80 49 80 52 a.0 b.0 (sym a.1 ∙ b.1))
-  where
-    second : (x y u v : ℕ) (l m : List ℕ) → x ∷ y ∷ l ≡ u ∷ v ∷ m → y ≡ v
-    second x y u v l m e = cc
+one_name bytes a b = omega (arith, second_is 80 49 80 52 a.0 b.0 (sym a.1 ∙ b.1))
 
 -- ---- an image
 
@@ -81,9 +78,6 @@ same_front a r b q e len =
     let g = goes_on a r b q e (omega (arith, len)) in
     let none = nothing_behind g.middle (omega (arith, ap length g.first, length-append b g.middle, len)) in
     (g.first ∙ ap (λ (l : List ℕ). b ++ l) none ∙ append-nil b, sym (g.second ∙ ap (λ (l : List ℕ). l ++ r) none))
-
-size_is : (m n : ℕ) → m ≤ 8192 → n ≤ 8192 → min m 999999999 ≡ min n 999999999 → m ≡ n
-size_is m n x y e = omega (arith, e, x, y)
 
 -- one image stands at the front
 pub image_once : (a r b q : List ℕ) (p t : Page) → a ++ r ≡ b ++ q → SpellsIn Raw a p → SpellsIn Raw b t → (a ≡ b) × (r ≡ q)

@@ -7,7 +7,7 @@ use Rattle.pbm_reader.specs.declared.form.Form.{Form}
 use Rattle.pbm_reader.specs.declared.form.Form.TheVariants.{Plain, Raw}
 use Rattle.packed_rows.specs.Page.{Page}
 use Rattle.pbm_reader.specs.Spelling.{Spells}
-use Rattle.pbm_reader.specs.Fault.{Begins, HasFaultWithin}
+use Rattle.pbm_reader.specs.Fault.{Begins, HasFaultWithin, IsTooLong}
 
 -- the bytes spell the page in this form
 abbrev pub SpellsIn : Form → List ℕ → Page → Type 0
@@ -90,13 +90,8 @@ pub record HasImagesFault (input : List ℕ) (fault : PageFault) : Type 0 where
   pub is_fault : HasFaultAfter (length pages) (length images) behind fault
 
 -- the first 268,435,456 bytes decide none of these faults, and a byte follows them
-pub record ArePagesTooLong (input : List ℕ) : Type 0 where
-  pub front : List ℕ
-  pub behind : List ℕ
-  pub whole : input ≡ front ++ behind
-  pub len : length front ≡ MAX_INPUT
-  pub more : 0 < length behind
-  pub undecided : (fault : PageFault) → ((rest : List ℕ) → HasImagesFault (front ++ rest) fault) → ⊥
+abbrev pub ArePagesTooLong : List ℕ → Type 0
+ArePagesTooLong input = IsTooLong HasImagesFault input
 
 -- what is wrong with an input that is to spell a list of pages: its length, or where it is not too long what stands behind its images
 abbrev pub HasPagesFault : List ℕ → PageFault → Type 0
