@@ -235,7 +235,7 @@ wrong_verdict input at f =
 behind_plain : (width height len : ℕ) (raster rest : List ℕ) → IsRaster Plain width height raster → raster_verdict Plain width height len (raster ++ rest) ≡ tail_verdict (len + length raster) rest
 behind_plain width height len raster rest r = plain_at width height len raster rest (whole r.0) (spelled_reads r.0 raster (height * width) r.2 r.1) (done_stuck r.0 rest)
 
-behind_verdict : (form : Form) (width height len byte : ℕ) (raster more : List ℕ) → IsRaster form width height raster → (MayFollow form (byte ∷ []) → ⊥)
+pub behind_verdict : (form : Form) (width height len byte : ℕ) (raster more : List ℕ) → IsRaster form width height raster → (MayFollow form (byte ∷ []) → ⊥)
     → raster_verdict form width height len (raster ++ byte ∷ more) ≡ Some (faults.Trailing (len + length raster))
 behind_verdict Raw width height len byte raster more r refused =
     let size = height * row_len width in
@@ -263,6 +263,7 @@ fault_verdict input (faults.Truncated at) f = end_verdict input at f.end f.part
 fault_verdict input (faults.Pixel at) f = wrong_verdict input at f
 fault_verdict input (faults.Trailing at) f = trailing_verdict input at f
 fault_verdict input faults.InputTooLong f = absurd f
+fault_verdict input faults.TooManyImages f = absurd f
 fault_verdict input faults.ReadFault f = absurd f
 fault_verdict input faults.Memory f = absurd f
 

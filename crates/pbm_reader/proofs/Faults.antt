@@ -340,6 +340,7 @@ size_fault header behind form width height (faults.Truncated at) h short f = abs
 size_fault header behind form width height (faults.Pixel at) h short f = absurd f
 size_fault header behind form width height (faults.Trailing at) h short f = absurd f
 size_fault header behind form width height faults.InputTooLong h short f = absurd f
+size_fault header behind form width height faults.TooManyImages h short f = absurd f
 size_fault header behind form width height faults.ReadFault h short f = absurd f
 size_fault header behind form width height faults.Memory h short f = absurd f
 

@@ -1,5 +1,5 @@
 -- What a feed that began with nothing unread sees of its source.
-use Rattle.std.proofs.Common.{◌≡◌, ℕ, List, [], sym, ap, subst, ◌∙◌}
+use Rattle.std.proofs.Common.{◌≡◌, ℕ, [], sym, ap, subst, ◌∙◌}
 use Rattle.layout_outside.specs.Causes.{Rose}
 use Rattle.layout_outside.specs.Views.{SourceView}
 use Rattle.pbm_reader.specs.Feed.{with_unread}

@@ -15,7 +15,7 @@ use Rattle.pbm_reader.proofs.Machines.{run, IsOpen, IsStuck, Reached, reached}
 use Rattle.pbm_reader.proofs.HeaderWalk.{is_whole, header_machine, read_header}
 use Rattle.pbm_reader.proofs.Faults.{wrong_fault, missing_fault, too_long}
 use Rattle.pbm_reader.proofs.Gaps.{not_both}
-use Rattle.pbm_reader.proofs.Settled.{settled}
+use Rattle.pbm_reader.proofs.Settled.{settled, shown}
 use Rattle.pbm_reader.proofs.OneFault.{has_fault, long_fault}
 use Rattle.pbm_reader.proofs.RasterJudged.{JudgedWithin, sized_judged}
 
@@ -77,7 +77,7 @@ header_judged header behind form width height h short all =
           ]
     ]
 
-judged_within : (input : List ℕ) → length input ≤ 268435456 → JudgedWithin input
+pub judged_within : (input : List ℕ) → length input ≤ 268435456 → JudgedWithin input
 judged_within input short = cases (reached next_state Magic input)
   where
     J : List ℕ → Type 0
@@ -110,6 +110,21 @@ judged_within input short = cases (reached next_state Magic input)
         by_state true w = whole_header r.front r.rest r.last r.reads w (omega (arith, short, ap length r.whole))
         by_state false o = open_header r.front r.rest r.last (record { reads = r.reads; open_yet = o }) r.stays
 
+-- whether the fault is the input's end
+pub is_cut : (fault : PageFault) → ((at : ℕ) × (fault ≡ faults.Truncated at)) ⊎ ((at : ℕ) → fault ≡ faults.Truncated at → ⊥)
+is_cut (faults.Truncated at) = inl (at, refl)
+is_cut (faults.Magic at) = inr (λ k e. absurd cc)
+is_cut (faults.Header at) = inr (λ k e. absurd cc)
+is_cut faults.HeaderTooLong = inr (λ k e. absurd cc)
+is_cut faults.ZeroSize = inr (λ k e. absurd cc)
+is_cut (faults.TooLarge width height) = inr (λ k e. absurd cc)
+is_cut (faults.Pixel at) = inr (λ k e. absurd cc)
+is_cut (faults.Trailing at) = inr (λ k e. absurd cc)
+is_cut faults.InputTooLong = inr (λ k e. absurd cc)
+is_cut faults.TooManyImages = inr (λ k e. absurd cc)
+is_cut faults.ReadFault = inr (λ k e. absurd cc)
+is_cut faults.Memory = inr (λ k e. absurd cc)
+
 pub judged : (input : List ℕ) → IsPage input ⊎ ((fault : PageFault) × HasFault input fault)
 judged input =
     elim (cases_lt 268435456 (length input)) [
@@ -123,19 +138,6 @@ judged input =
           (by_front (take 268435456 input) (drop 268435456 input) (length-take-le 268435456 input (omega (arith, longer))) (omega (arith, length-drop 268435456 input, longer))))
     ]
   where
-    is_cut : (fault : PageFault) → ((at : ℕ) × (fault ≡ faults.Truncated at)) ⊎ ((at : ℕ) → fault ≡ faults.Truncated at → ⊥)
-    is_cut (faults.Truncated at) = inl (at, refl)
-    is_cut (faults.Magic at) = inr (λ k e. absurd cc)
-    is_cut (faults.Header at) = inr (λ k e. absurd cc)
-    is_cut faults.HeaderTooLong = inr (λ k e. absurd cc)
-    is_cut faults.ZeroSize = inr (λ k e. absurd cc)
-    is_cut (faults.TooLarge width height) = inr (λ k e. absurd cc)
-    is_cut (faults.Pixel at) = inr (λ k e. absurd cc)
-    is_cut (faults.Trailing at) = inr (λ k e. absurd cc)
-    is_cut faults.InputTooLong = inr (λ k e. absurd cc)
-    is_cut faults.ReadFault = inr (λ k e. absurd cc)
-    is_cut faults.Memory = inr (λ k e. absurd cc)
-
     by_front : (front behind : List ℕ) → length front ≡ 268435456 → 0 < length behind → (fault : PageFault) × HasFault (front ++ behind) fault
     by_front front behind len more =
         elim (judged_within front (omega (arith, len))) [
@@ -145,6 +147,6 @@ judged input =
                 | inl t ↦ (faults.InputTooLong, long_fault front behind len more (inr (t.0, subst (λ (k : PageFault). HasFaultWithin front k) t.1 f.1)))
                 | inr other ↦
                     let here = subst (λ (l : List ℕ). HasFaultWithin l f.0) (sym (append-nil front)) f.1 in
-                    (f.0, has_fault (front ++ behind) f.0 (settled front [] behind f.0 len other here))
+                    (f.0, has_fault (front ++ behind) f.0 (settled front [] behind f.0 (inl len) (shown front front f.0 (omega (arith, len)) other f.1) here))
               ]
         ]

@@ -14,6 +14,10 @@ pub mod OneFault
 pub mod RasterJudged
 pub mod Judged
 pub mod OnePage
+pub mod RawImages
+pub mod ImageFaults
+pub mod ImageFronts
+pub mod ImagesJudged
 pub mod HeaderLoop
 pub mod Pictures
 pub mod TopRows

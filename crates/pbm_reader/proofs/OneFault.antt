@@ -8,7 +8,7 @@ use Rattle.pbm_reader.specs.Spelling.{Spells, IsPage}
 use Rattle.pbm_reader.specs.Fault.{HasMagic, IsTruncated, IsInputTooLong, HasFaultWithin, HasFault, DecidesNothing}
 use Rattle.pbm_reader.proofs.FaultVerdicts.{fault_verdict, page_verdict}
 use Rattle.pbm_reader.proofs.Gaps.{some_is, none_some}
-use Rattle.pbm_reader.proofs.Settled.{settled}
+use Rattle.pbm_reader.proofs.Settled.{settled, shown}
 
 -- ---- within the limit
 
@@ -43,6 +43,7 @@ within_or_long input (faults.Truncated at) f = inl f
 within_or_long input (faults.Pixel at) f = inl f
 within_or_long input (faults.Trailing at) f = inl f
 within_or_long input faults.InputTooLong f = inr (refl, f)
+within_or_long input faults.TooManyImages f = inl f
 within_or_long input faults.ReadFault f = inl f
 within_or_long input faults.Memory f = inl f
 
@@ -56,6 +57,7 @@ has_fault input (faults.Truncated at) f = f
 has_fault input (faults.Pixel at) f = f
 has_fault input (faults.Trailing at) f = f
 has_fault input faults.InputTooLong f = absurd f
+has_fault input faults.TooManyImages f = f
 has_fault input faults.ReadFault f = f
 has_fault input faults.Memory f = f
 
@@ -69,8 +71,8 @@ not_long : (input : List ℕ) (fault : PageFault) → HasFaultWithin input fault
 not_long input fault f l =
     let whole = l.whole in
     let P : List ℕ → Type 0 = λ k. HasFaultWithin k fault in
-    l.undecided fault (λ rest. settled l.front l.behind rest fault l.len
-    (λ at e. let short = cut_len input fault at f e in omega (arith, short, ap length whole, length-append l.front l.behind, l.len, l.more)) (subst P whole f))
+    let uncut : (at : ℕ) → fault ≡ faults.Truncated at → ⊥ = λ at e. let short = cut_len input fault at f e in omega (arith, short, ap length whole, length-append l.front l.behind, l.len, l.more) in
+    l.undecided fault (λ rest. settled l.front l.behind rest fault (inl l.len) (shown l.front input fault (omega (arith, l.len)) uncut f) (subst P whole f))
 
 pub one_fault : (input : List ℕ) (f g : PageFault) → HasFault input f → HasFault input g → f ≡ g
 one_fault input f g x y = cases (within_or_long input f x) (within_or_long input g y)
@@ -116,16 +118,9 @@ nothing_undecided fault decides =
     not_nil : (x : ℕ) (xs : List ℕ) → [] ≡ x ∷ xs → ⊥
     not_nil x xs e = cc
 
-pub letter_undecided : DecidesNothing (80 ∷ [])
-letter_undecided fault decides =
-    let now = decides [] in
-    let first : HasFault (80 ∷ []) (faults.Magic 1) = inr (refl, ([], refl), none) in
-    let e : fault ≡ faults.Magic 1 = one_fault (80 ∷ []) fault (faults.Magic 1) now first in
-    let later = subst (λ (f : PageFault). HasFault (80 ∷ 52 ∷ []) f) e (decides (52 ∷ [])) in
-    elim later [
-      | inl f ↦ omega (arith, f.0)
-      | inr f ↦ f.2 (inr ([], refl))
-    ]
+-- the letter of a name alone is no name
+pub letter_fault : HasFaultWithin (80 ∷ []) (faults.Magic 1)
+letter_fault = inr (refl, ([], refl), none)
   where
     shorter : (x y : ℕ) (xs : List ℕ) → 80 ∷ [] ≡ x ∷ y ∷ xs → ⊥
     shorter x y xs e = omega (arith, ap length e)
@@ -133,6 +128,16 @@ letter_undecided fault decides =
     none : HasMagic (80 ∷ []) → ⊥
     none (inl m) = shorter 80 49 m.0 m.1
     none (inr m) = shorter 80 52 m.0 m.1
+
+pub letter_undecided : DecidesNothing (80 ∷ [])
+letter_undecided fault decides =
+    let now = decides [] in
+    let e : fault ≡ faults.Magic 1 = one_fault (80 ∷ []) fault (faults.Magic 1) now letter_fault in
+    let later = subst (λ (f : PageFault). HasFault (80 ∷ 52 ∷ []) f) e (decides (52 ∷ [])) in
+    elim later [
+      | inl f ↦ omega (arith, f.0)
+      | inr f ↦ f.2 (inr ([], refl))
+    ]
 
 -- an input that goes on behind 268,435,456 bytes that spell a page or end too early
 pub long_fault : (front behind : List ℕ) → length front ≡ 268435456 → 0 < length behind → IsPage front ⊎ ((at : ℕ) × IsTruncated front at) → IsInputTooLong (front ++ behind)

@@ -13,7 +13,7 @@ use Rattle.pbm_reader.proofs.RasterWalk.{raster_step, wanted, spelled_reads}
 use Rattle.pbm_reader.proofs.RasterWalk.RasterState.{whole}
 use Rattle.pbm_reader.proofs.Verdict.{whole_stuck, done_stuck}
 
-no_tail : (tail : List ℕ) → MayFollow Raw tail → tail ≡ []
+pub no_tail : (tail : List ℕ) → MayFollow Raw tail → tail ≡ []
 no_tail [] f = refl
 no_tail (byte ∷ tail) f = absurd f
 
@@ -39,6 +39,10 @@ same_rows Plain p q a b x y s t wide high e f g =
     pixels_is : (u v : List ℕ) → whole u ≡ whole v → u ≡ v
     pixels_is u v e = cc
 
+-- sizes of pages that are told alike are alike
+pub size_is : (m n : ℕ) → m ≤ 8192 → n ≤ 8192 → min m 999999999 ≡ min n 999999999 → m ≡ n
+size_is m n x y e = omega (arith, e, x, y)
+
 -- an input spells at most one page
 pub one_page : (input : List ℕ) (p q : Page) → Spells input p → Spells input q → p ≡ q
 one_page input p q s t =
@@ -57,6 +61,3 @@ one_page input p q s t =
     let rows = subst (λ (f : Form). SpellsRows f p s.raster) form s.rows in
     let follows = subst (λ (f : Form). MayFollow f s.tail) form s.follows in
     same_rows t.form p q s.raster t.raster s.tail t.tail rows t.rows same_width same_height r.rest follows t.follows
-  where
-    size_is : (m n : ℕ) → m ≤ 8192 → n ≤ 8192 → min m 999999999 ≡ min n 999999999 → m ≡ n
-    size_is m n x y e = omega (arith, e, x, y)

@@ -210,6 +210,7 @@ pixels_fail old middle new start at n count a (faults.Magic place) p le f = absu
 pixels_fail old middle new start at n count a (faults.Header place) p le f = absurd f
 pixels_fail old middle new start at n count a faults.HeaderTooLong p le f = absurd f
 pixels_fail old middle new start at n count a faults.ZeroSize p le f = absurd f
+pixels_fail old middle new start at n count a faults.TooManyImages p le f = absurd f
 pixels_fail old middle new start at n count a (faults.TooLarge wide high) p le f = absurd f
 pixels_fail old middle new start at n count a (faults.Trailing place) p le f = absurd f
 

@@ -104,6 +104,7 @@ raster_fails old new width height start (faults.Magic at) f = absurd f
 raster_fails old new width height start (faults.Header at) f = absurd f
 raster_fails old new width height start faults.HeaderTooLong f = absurd f
 raster_fails old new width height start faults.ZeroSize f = absurd f
+raster_fails old new width height start faults.TooManyImages f = absurd f
 raster_fails old new width height start (faults.TooLarge wide high) f = absurd f
 raster_fails old new width height start (faults.Trailing at) f = absurd f
 

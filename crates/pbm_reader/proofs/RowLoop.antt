@@ -109,6 +109,7 @@ row_fails given old middle new width height y start before sink (faults.Magic at
 row_fails given old middle new width height y start before sink (faults.Header at) g lt size short h = absurd h
 row_fails given old middle new width height y start before sink faults.HeaderTooLong g lt size short h = absurd h
 row_fails given old middle new width height y start before sink faults.ZeroSize g lt size short h = absurd h
+row_fails given old middle new width height y start before sink faults.TooManyImages g lt size short h = absurd h
 row_fails given old middle new width height y start before sink (faults.TooLarge wide high) g lt size short h = absurd h
 row_fails given old middle new width height y start before sink (faults.Pixel at) g lt size short h = absurd h
 row_fails given old middle new width height y start before sink (faults.Trailing at) g lt size short h = absurd h

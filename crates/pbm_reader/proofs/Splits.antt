@@ -2,11 +2,14 @@
 use Rattle.std.proofs.Common.{◌≡◌, ℕ, ◌<◌, ◌≤◌, List, [], ◌∷◌, ◌++◌, length, refl, sym, ◌∙◌, append_assoc, arith}
 use Rattle.std.proofs.lemmas.List.{length-append}
 
-head_is : (x y : ℕ) (xs ys : List ℕ) → x ∷ xs ≡ y ∷ ys → x ≡ y
+pub head_is : (x y : ℕ) (xs ys : List ℕ) → x ∷ xs ≡ y ∷ ys → x ≡ y
 head_is x y xs ys e = cc
 
 tail_is : (x y : ℕ) (xs ys : List ℕ) → x ∷ xs ≡ y ∷ ys → xs ≡ ys
 tail_is x y xs ys e = cc
+
+pub second_is : (x y u v : ℕ) (xs ys : List ℕ) → x ∷ y ∷ xs ≡ u ∷ v ∷ ys → y ≡ v
+second_is x y u v xs ys e = cc
 
 -- the first list goes on behind the other first list
 pub record GoesOn (a x p q : List ℕ) : Type 0 where

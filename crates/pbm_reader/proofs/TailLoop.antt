@@ -1,5 +1,5 @@
 -- What stands behind a raster is read to its end.
-use Rattle.std.proofs.Common.{◌≡◌, ℕ, ◌+◌, ◌-◌, ◌<◌, ◌≤◌, List, [], ◌∷◌, ◌++◌, length, take, drop, Option, refl, sym, ap, arith}
+use Rattle.std.proofs.Common.{◌≡◌, ℕ, ◌+◌, ◌-◌, ◌<◌, ◌≤◌, List, [], ◌∷◌, ◌++◌, length, take, drop, refl, sym, ap, arith}
 use Rattle.std.proofs.lemmas.List.{length-append, length-take-le, length-drop, take-append-drop}
 use Rattle.pbm_reader.specs.declared.fault.PageFault.{PageFault}
 use Rattle.pbm_reader.specs.declared.fault.PageFault.TheVariants as faults
@@ -82,6 +82,7 @@ tail_fails old middle new form start byte (faults.Magic at) took follows low f =
 tail_fails old middle new form start byte (faults.Header at) took follows low f = absurd f
 tail_fails old middle new form start byte faults.HeaderTooLong took follows low f = absurd f
 tail_fails old middle new form start byte faults.ZeroSize took follows low f = absurd f
+tail_fails old middle new form start byte faults.TooManyImages took follows low f = absurd f
 tail_fails old middle new form start byte (faults.TooLarge wide high) took follows low f = absurd f
 tail_fails old middle new form start byte (faults.Truncated at) took follows low f = absurd f
 tail_fails old middle new form start byte (faults.Pixel at) took follows low f = absurd f

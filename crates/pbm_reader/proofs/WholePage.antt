@@ -1,5 +1,5 @@
 -- A page is read exactly where the input spells one, and each refusal is the fault of the input.
-use Rattle.std.proofs.Common.{◌≡◌, ℕ, ◌+◌, ◌⊎◌, ◌<◌, ◌≤◌, true, false, List, [], ◌∷◌, ◌++◌, length, Option, Some, None, Result, Ok, Err, refl, sym, ap, subst, ◌∙◌, append_assoc, append-nil, inl, inr, arith}
+use Rattle.std.proofs.Common.{◌≡◌, ℕ, ◌+◌, ◌⊎◌, ◌<◌, ◌≤◌, List, [], ◌∷◌, ◌++◌, length, Option, Some, None, Result, Ok, Err, refl, sym, ap, subst, ◌∙◌, append_assoc, append-nil, inl, inr, arith}
 use Rattle.std.specs.Prelude.{IfSome, IfOk, IfErr, IsErr, IsOkUnless}
 use Rattle.std.proofs.lemmas.List.{length-append}
 use Rattle.std.specs.Io.KnownBytes.{prepend_known, IsAtEnd}
@@ -20,7 +20,7 @@ use Rattle.layout_outside.specs.Views.{SourceView}
 use Rattle.layout_outside.specs.Taken.{Took, TookAll}
 use Rattle.pbm_reader.specs.Header.{TookHeader}
 use Rattle.pbm_reader.specs.Reading.{HasReadCause, ReadsPage, Refuses}
-use Rattle.pbm_reader.proofs.Taken.{took_more, took_all, prepend_nothing, of_all, of_end}
+use Rattle.pbm_reader.proofs.Taken.{took_more, took_all, of_all, of_end}
 use Rattle.pbm_reader.proofs.Faults.{raster_ends}
 use Rattle.pbm_reader.proofs.OneFault.{one_fault, page_has_no_fault, page_undecided, cut_undecided, long_fault}
 
@@ -99,6 +99,7 @@ raster_refuses old middle new header (faults.Magic at) t f = absurd f
 raster_refuses old middle new header (faults.Header at) t f = absurd f
 raster_refuses old middle new header faults.HeaderTooLong t f = absurd f
 raster_refuses old middle new header faults.ZeroSize t f = absurd f
+raster_refuses old middle new header faults.TooManyImages t f = absurd f
 raster_refuses old middle new header (faults.TooLarge wide high) t f = absurd f
 raster_refuses old middle new header (faults.Trailing at) t f = absurd f
 
@@ -190,6 +191,7 @@ tail_refuses given old middle later new header end empty after (faults.Magic at)
 tail_refuses given old middle later new header end empty after (faults.Header at) t r f = absurd f
 tail_refuses given old middle later new header end empty after faults.HeaderTooLong t r f = absurd f
 tail_refuses given old middle later new header end empty after faults.ZeroSize t r f = absurd f
+tail_refuses given old middle later new header end empty after faults.TooManyImages t r f = absurd f
 tail_refuses given old middle later new header end empty after (faults.TooLarge wide high) t r f = absurd f
 tail_refuses given old middle later new header end empty after (faults.Truncated at) t r f = absurd f
 tail_refuses given old middle later new header end empty after (faults.Pixel at) t r f = absurd f
@@ -233,6 +235,7 @@ only_memory old new (Err (faults.Magic at)) input refuses cause told p calm = ab
 only_memory old new (Err (faults.Header at)) input refuses cause told p calm = absurd (known_fault old input p.0 (faults.Header at) told p.1 refuses)
 only_memory old new (Err faults.HeaderTooLong) input refuses cause told p calm = absurd (known_fault old input p.0 faults.HeaderTooLong told p.1 refuses)
 only_memory old new (Err faults.ZeroSize) input refuses cause told p calm = absurd (known_fault old input p.0 faults.ZeroSize told p.1 refuses)
+only_memory old new (Err faults.TooManyImages) input refuses cause told p calm = absurd (known_fault old input p.0 faults.TooManyImages told p.1 refuses)
 only_memory old new (Err (faults.TooLarge wide high)) input refuses cause told p calm = absurd (known_fault old input p.0 (faults.TooLarge wide high) told p.1 refuses)
 only_memory old new (Err (faults.Truncated at)) input refuses cause told p calm = absurd (known_fault old input p.0 (faults.Truncated at) told p.1 refuses)
 only_memory old new (Err (faults.Pixel at)) input refuses cause told p calm = absurd (known_fault old input p.0 (faults.Pixel at) told p.1 refuses)
@@ -273,6 +276,7 @@ only_fault begun given old new start sink (Err (faults.Magic at)) input fault re
 only_fault begun given old new start sink (Err (faults.Header at)) input fault reads refuses cause told f calm = (refl, inl (same_fault old input (faults.Header at) fault told refuses f))
 only_fault begun given old new start sink (Err faults.HeaderTooLong) input fault reads refuses cause told f calm = (refl, inl (same_fault old input faults.HeaderTooLong fault told refuses f))
 only_fault begun given old new start sink (Err faults.ZeroSize) input fault reads refuses cause told f calm = (refl, inl (same_fault old input faults.ZeroSize fault told refuses f))
+only_fault begun given old new start sink (Err faults.TooManyImages) input fault reads refuses cause told f calm = (refl, inl (same_fault old input faults.TooManyImages fault told refuses f))
 only_fault begun given old new start sink (Err (faults.TooLarge wide high)) input fault reads refuses cause told f calm =
     (refl, inl (same_fault old input (faults.TooLarge wide high) fault told refuses f))
 only_fault begun given old new start sink (Err (faults.Truncated at)) input fault reads refuses cause told f calm = (refl, inl (same_fault old input (faults.Truncated at) fault told refuses f))

@@ -149,17 +149,21 @@ HasFaultWithin input (faults.Truncated at) = IsTruncated input at
 HasFaultWithin input (faults.Pixel at) = IsPixelFault input at
 HasFaultWithin input (faults.Trailing at) = IsTrailing input at
 HasFaultWithin input faults.InputTooLong = ⊥
+HasFaultWithin input faults.TooManyImages = ⊥
 HasFaultWithin input faults.ReadFault = ⊥
 HasFaultWithin input faults.Memory = ⊥
 
--- the first 268,435,456 bytes decide none of these faults, and a byte follows them
-pub record IsInputTooLong (input : List ℕ) : Type 0 where
+-- the first 268,435,456 bytes decide no fault of this kind, and a byte follows them
+pub record IsTooLong (Has : List ℕ → PageFault → Type 0) (input : List ℕ) : Type 0 where
   pub front : List ℕ
   pub behind : List ℕ
   pub whole : input ≡ front ++ behind
   pub len : length front ≡ MAX_INPUT
   pub more : 0 < length behind
-  pub undecided : (fault : PageFault) → ((rest : List ℕ) → HasFaultWithin (front ++ rest) fault) → ⊥
+  pub undecided : (fault : PageFault) → ((rest : List ℕ) → Has (front ++ rest) fault) → ⊥
+
+abbrev pub IsInputTooLong : List ℕ → Type 0
+IsInputTooLong input = IsTooLong HasFaultWithin input
 
 -- the input has this fault
 abbrev pub HasFault : List ℕ → PageFault → Type 0

@@ -2,6 +2,7 @@
 pub use Rattle.packed_rows.specs.Page
 pub mod Spelling
 pub mod Fault
+pub mod Images
 pub mod Given
 pub mod Feed
 pub mod Reading

@@ -38,8 +38,11 @@ pub enum PageFault {
     /// A raster ends here, and this byte may not follow it: any in the raw form, one that isn't white
     /// in the plain form.
     Trailing { at: u64 },
-    /// The first 268,435,456 bytes decide none of the faults above, and more bytes follow them.
+    /// The first 268,435,456 bytes decide none of the other faults, and more bytes follow them.
     InputTooLong,
+    /// 256 raw images are whole, and a byte stands behind them. Only a reader of several images
+    /// answers it.
+    TooManyImages,
     /// A read of the source failed before the bytes that it gave decided one of the faults above.
     ReadFault,
     /// Memory was refused, here or in the row sink.

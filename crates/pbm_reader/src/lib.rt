@@ -18,6 +18,6 @@ mod tests;
 
 pub use fault::{PageFault, Size};
 pub use law::{each_input_is_judged, equal_pictures_are_one_page};
-pub use limits::{MAX_HEADER, MAX_INPUT, MAX_NUMBER, MAX_PIECE};
+pub use limits::{MAX_HEADER, MAX_IMAGES, MAX_INPUT, MAX_NUMBER, MAX_PIECE};
 pub use page::read_page;
 pub use row_sink::RowSink;

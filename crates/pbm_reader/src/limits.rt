@@ -11,3 +11,6 @@ pub const MAX_NUMBER: u32 = 999_999_999;
 
 /// How many bytes of the input are held at once, at most.
 pub const MAX_PIECE: usize = 32_768;
+
+/// How many images an input may have, at most.
+pub const MAX_IMAGES: u32 = 256;

@@ -93,57 +93,59 @@ fn size(width: u16, height: u16) -> Result<Size, PageFault> {
     Ok(Size { width, height })
 }
 
+// Inputs that spell a page, its sides, and the bytes of its rows.
+const PAGES: [(&[u8], u16, u16, &[u8]); 13] = [
+    (
+        b"P4\n9 3\n\x01\xff\x80\x7f\xff\x80",
+        9,
+        3,
+        b"\x01\x80\x80\0\xff\x80",
+    ),
+    // one white pixel
+    (b"P1\n1 1\n0\n", 1, 1, b"\0"),
+    // plain PBM with comments
+    (
+        b"P1\r\n#c\r\n3#w\n2\r\n101\n0 1#x\n0\njunk",
+        3,
+        2,
+        b"\xa0\x40",
+    ),
+    // the header that GIMP writes, in both forms
+    (
+        b"P4\n# CREATOR: GIMP PNM Filter Version 1.1\n8 1\n\xaa",
+        8,
+        1,
+        b"\xaa",
+    ),
+    (
+        b"P1\n# Created by GIMP version 2.10.34 PNM plug-in\n8 1\n10101010\n",
+        8,
+        1,
+        b"\xaa",
+    ),
+    // Netpbm's own plain files, and the example of its manual page
+    (b"P1\n10 1\n0110011001\n", 10, 1, b"\x66\x40"),
+    (
+        b"P1\n# feep.pbm\n6 2\n0 1 1 1 1 0\n0 1 0 0 0 0\n",
+        6,
+        2,
+        b"\x78\x40",
+    ),
+    // lines that end as on Windows
+    (b"P1\r\n2 2\r\n0 1\r\n1 0\r\n", 2, 2, b"\x40\x80"),
+    // the carriage return ends the header, and the line feed is raster
+    (b"P4\n8 1\r\n", 8, 1, b"\n"),
+    (b"P4 0008\t#\r01 \xff", 8, 1, b"\xff"),
+    // no white byte has to stand between pixels, and a comment may
+    (b"P1 3 1\n#1\n01#\r1", 3, 1, b"\x60"),
+    (b"P1 1 1 1", 1, 1, b"\x80"),
+    (b"P1 1 1 1 #", 1, 1, b"\x80"),
+];
+
 #[test]
 fn pages_give_their_rows_with_their_padding_cleared(rt: HostRuntime) -> Result<(), Fail> {
-    let pages: [(&[u8], u16, u16, &[u8]); 13] = [
-        (
-            b"P4\n9 3\n\x01\xff\x80\x7f\xff\x80",
-            9,
-            3,
-            b"\x01\x80\x80\0\xff\x80",
-        ),
-        // one white pixel
-        (b"P1\n1 1\n0\n", 1, 1, b"\0"),
-        // plain PBM with comments
-        (
-            b"P1\r\n#c\r\n3#w\n2\r\n101\n0 1#x\n0\njunk",
-            3,
-            2,
-            b"\xa0\x40",
-        ),
-        // the header that GIMP writes, in both forms
-        (
-            b"P4\n# CREATOR: GIMP PNM Filter Version 1.1\n8 1\n\xaa",
-            8,
-            1,
-            b"\xaa",
-        ),
-        (
-            b"P1\n# Created by GIMP version 2.10.34 PNM plug-in\n8 1\n10101010\n",
-            8,
-            1,
-            b"\xaa",
-        ),
-        // Netpbm's own plain files, and the example of its manual page
-        (b"P1\n10 1\n0110011001\n", 10, 1, b"\x66\x40"),
-        (
-            b"P1\n# feep.pbm\n6 2\n0 1 1 1 1 0\n0 1 0 0 0 0\n",
-            6,
-            2,
-            b"\x78\x40",
-        ),
-        // lines that end as on Windows
-        (b"P1\r\n2 2\r\n0 1\r\n1 0\r\n", 2, 2, b"\x40\x80"),
-        // the carriage return ends the header, and the line feed is raster
-        (b"P4\n8 1\r\n", 8, 1, b"\n"),
-        (b"P4 0008\t#\r01 \xff", 8, 1, b"\xff"),
-        // no white byte has to stand between pixels, and a comment may
-        (b"P1 3 1\n#1\n01#\r1", 3, 1, b"\x60"),
-        (b"P1 1 1 1", 1, 1, b"\x80"),
-        (b"P1 1 1 1 #", 1, 1, b"\x80"),
-    ];
     for piece in [1, 3, 100] {
-        for (input, width, height, bytes) in pages {
+        for (input, width, height, bytes) in PAGES {
             let outcome = read(rt.alloc(), input, piece, u16::MAX)?;
             assert_eq!(rt;
                 outcome.result,
@@ -160,87 +162,80 @@ fn pages_give_their_rows_with_their_padding_cleared(rt: HostRuntime) -> Result<(
     Ok(())
 }
 
+// Inputs, their faults, and the read that decides each where a read gives one byte.
+const FAULTS: [(&[u8], PageFault, u64); 31] = [
+    (b"", PageFault::Magic { at: 0 }, 1),
+    (b"Q4", PageFault::Magic { at: 0 }, 1),
+    (b"P", PageFault::Magic { at: 1 }, 2),
+    (b"P5 1 1\n", PageFault::Magic { at: 1 }, 2),
+    (b"P4", PageFault::Truncated { at: 2 }, 3),
+    (b"P48 1\n", PageFault::Header { at: 2 }, 3),
+    (b"P4\n16", PageFault::Truncated { at: 5 }, 6),
+    (b"P4\n16 x", PageFault::Header { at: 6 }, 7),
+    (b"P4\n8 1#c\n\0", PageFault::Header { at: 6 }, 7),
+    (b"P4\n#c", PageFault::Truncated { at: 5 }, 6),
+    (b"P4\n#c\n#8 1\n", PageFault::Truncated { at: 11 }, 12),
+    (b"P1\n#c\n\x0b1 1\n", PageFault::Header { at: 6 }, 7),
+    (b"P4\n0 99999\n\0", PageFault::ZeroSize, 11),
+    (b"P4\n99999 0\n\0", PageFault::ZeroSize, 11),
+    (b"P1\n000 1\n", PageFault::ZeroSize, 9),
+    (
+        b"P4\n8193 1\n\0",
+        PageFault::TooLarge {
+            width: 8193,
+            height: 1,
+        },
+        10,
+    ),
+    (
+        b"P4\n1 8193\n\0",
+        PageFault::TooLarge {
+            width: 1,
+            height: 8193,
+        },
+        10,
+    ),
+    (
+        b"P1\n8192 4097\n0",
+        PageFault::TooLarge {
+            width: 8192,
+            height: 4097,
+        },
+        13,
+    ),
+    (
+        b"P4\n99999999999 1\n",
+        PageFault::TooLarge {
+            width: 999_999_999,
+            height: 1,
+        },
+        17,
+    ),
+    (
+        b"P4\n1 4294967297\n",
+        PageFault::TooLarge {
+            width: 1,
+            height: 999_999_999,
+        },
+        16,
+    ),
+    (b"P4\n16 2\n\0\0\0", PageFault::Truncated { at: 11 }, 12),
+    (b"P4\n8 1\n\0\0", PageFault::Trailing { at: 8 }, 9),
+    (b"P4\n8 1\n\0\n", PageFault::Trailing { at: 8 }, 9),
+    (b"P4\n8 1\n\0P4\n8 1\n\0", PageFault::Trailing { at: 8 }, 9),
+    (b"P1\n2 1\n0#1", PageFault::Truncated { at: 10 }, 11),
+    (b"P1\n2 1\n0x", PageFault::Pixel { at: 8 }, 9),
+    (b"P1\n2 1\n#\n\n0\0", PageFault::Pixel { at: 11 }, 12),
+    (b"P1\n1 1\n01", PageFault::Trailing { at: 8 }, 9),
+    (b"P1\n1 1\n0#", PageFault::Trailing { at: 8 }, 9),
+    (b"P1\n1 1\n#0", PageFault::Truncated { at: 9 }, 10),
+    (b"P1\n1 1#\n0", PageFault::Header { at: 6 }, 7),
+];
+
 #[test]
 fn faults_of_headers_and_rasters_have_their_places(rt: HostRuntime) -> Result<(), Fail> {
-    let faults: [(&[u8], PageFault, u64); 40] = [
-        (b"", PageFault::Magic { at: 0 }, 1),
-        (b"Q4", PageFault::Magic { at: 0 }, 1),
-        (b"P", PageFault::Magic { at: 1 }, 2),
-        (b"P5 1 1\n", PageFault::Magic { at: 1 }, 2),
-        (b"P4", PageFault::Truncated { at: 2 }, 3),
-        (b"P48 1\n", PageFault::Header { at: 2 }, 3),
-        (b"P4\n0", PageFault::Truncated { at: 4 }, 5),
-        (b"P4\n16", PageFault::Truncated { at: 5 }, 6),
-        (b"P4\n16 x", PageFault::Header { at: 6 }, 7),
-        (b"P4 16 16\n", PageFault::Truncated { at: 9 }, 10),
-        (b"P4\n4097 1\n", PageFault::Truncated { at: 10 }, 11),
-        (b"P4\n-8 1\n", PageFault::Header { at: 3 }, 4),
-        (b"P4\n8 1#c\n\0", PageFault::Header { at: 6 }, 7),
-        (b"P4\n8 1.", PageFault::Header { at: 6 }, 7),
-        (b"P4\n#c", PageFault::Truncated { at: 5 }, 6),
-        (b"P4\n#c\n#8 1\n", PageFault::Truncated { at: 11 }, 12),
-        (b"P1\n#c\n\x0b1 1\n", PageFault::Header { at: 6 }, 7),
-        (b"P4\n0 99999\n\0", PageFault::ZeroSize, 11),
-        (b"P4\n99999 0\n\0", PageFault::ZeroSize, 11),
-        (b"P1\n000 1\n", PageFault::ZeroSize, 9),
-        (
-            b"P4\n8193 1\n\0",
-            PageFault::TooLarge {
-                width: 8193,
-                height: 1,
-            },
-            10,
-        ),
-        (
-            b"P4\n1 8193\n\0",
-            PageFault::TooLarge {
-                width: 1,
-                height: 8193,
-            },
-            10,
-        ),
-        (
-            b"P1\n8192 4097\n0",
-            PageFault::TooLarge {
-                width: 8192,
-                height: 4097,
-            },
-            13,
-        ),
-        (
-            b"P4\n99999999999 1\n",
-            PageFault::TooLarge {
-                width: 999_999_999,
-                height: 1,
-            },
-            17,
-        ),
-        (
-            b"P4\n1 4294967297\n",
-            PageFault::TooLarge {
-                width: 1,
-                height: 999_999_999,
-            },
-            16,
-        ),
-        (b"P4\n16 2\n\0\0\0", PageFault::Truncated { at: 11 }, 12),
-        (b"P4\n8 1\n\0\0", PageFault::Trailing { at: 8 }, 9),
-        (b"P4\n8 1\n\0\n", PageFault::Trailing { at: 8 }, 9),
-        (b"P4\n8 1\n\0P4\n8 1\n\0", PageFault::Trailing { at: 8 }, 9),
-        (b"P1\n2 1\n", PageFault::Truncated { at: 7 }, 8),
-        (b"P1\n2 1\n0", PageFault::Truncated { at: 8 }, 9),
-        (b"P1\n2 1\n0#1", PageFault::Truncated { at: 10 }, 11),
-        (b"P1\n2 1\n0x", PageFault::Pixel { at: 8 }, 9),
-        (b"P1\n2 1\n2", PageFault::Pixel { at: 7 }, 8),
-        (b"P1\n2 1\n#\n\n0\0", PageFault::Pixel { at: 11 }, 12),
-        (b"P1\n1 1\n01", PageFault::Trailing { at: 8 }, 9),
-        (b"P1\n1 1\n0#", PageFault::Trailing { at: 8 }, 9),
-        (b"P1\n1 1\n0\0", PageFault::Trailing { at: 8 }, 9),
-        (b"P1\n1 1\n#0", PageFault::Truncated { at: 9 }, 10),
-        (b"P1\n1 1#\n0", PageFault::Header { at: 6 }, 7),
-    ];
     // No read is made once a fault is decided.
-    for (input, fault, reads) in faults {
+    for (input, fault, reads) in FAULTS {
         let outcome = read(rt.alloc(), input, 1, u16::MAX)?;
         assert_eq!(rt; outcome.result, Err(fault), "{input:?}");
         assert_eq!(rt; outcome.reads, reads, "{input:?}");
@@ -252,35 +247,13 @@ fn faults_of_headers_and_rasters_have_their_places(rt: HostRuntime) -> Result<()
 
 #[test]
 fn no_read_is_made_behind_a_decided_fault(rt: HostRuntime) -> Result<(), Fail> {
-    // The front of an input that goes on with spaces, its length, the most bytes of a read, and the read that decides the fault.
-    let cases: [(&[u8], u64, usize, PageFault, u64); 9] = [
-        (b"Q", u64::MAX, 1, PageFault::Magic { at: 0 }, 1),
-        (b"P4 x", u64::MAX, 1, PageFault::Header { at: 3 }, 4),
-        (b"P4", u64::MAX, 1, PageFault::HeaderTooLong, 65_537),
-        (b"P4 0 1", u64::MAX, 1, PageFault::ZeroSize, 7),
-        (
-            b"P4 8193 1",
-            u64::MAX,
-            1,
-            PageFault::TooLarge {
-                width: 8193,
-                height: 1,
-            },
-            10,
-        ),
-        (b"P4 8 2\n\0", 8, 1, PageFault::Truncated { at: 8 }, 9),
-        (b"P1 2 1\n0x", u64::MAX, 1, PageFault::Pixel { at: 8 }, 9),
-        (b"P4 8 1\n\0", u64::MAX, 1, PageFault::Trailing { at: 8 }, 9),
-        (
-            b"P1 1 1\n0",
-            u64::MAX,
-            usize::MAX,
-            PageFault::InputTooLong,
-            8_193,
-        ),
+    // The front of an input that goes on with spaces, the most bytes of a read, and the read that decides the fault.
+    let cases: [(&[u8], usize, PageFault, u64); 2] = [
+        (b"P4", 1, PageFault::HeaderTooLong, 65_537),
+        (b"P1 1 1\n0", usize::MAX, PageFault::InputTooLong, 8_193),
     ];
-    for (front, len, piece, fault, reads) in cases {
-        let mut src = Spaces::new(front.to_vec(rt.alloc())?, len, piece);
+    for (front, piece, fault, reads) in cases {
+        let mut src = Spaces::new(front.to_vec(rt.alloc())?, u64::MAX, piece);
         let mut rows = Rows::new(rt.alloc(), u16::MAX);
         let result = read_page(rt.alloc(), &mut src, &mut rows);
         assert_eq!(rt; result, Err(fault), "{front:?}");
@@ -289,43 +262,45 @@ fn no_read_is_made_behind_a_decided_fault(rt: HostRuntime) -> Result<(), Fail> {
     Ok(())
 }
 
+// Inputs that are refused, the row at which the sink refuses, the fault, and the bytes of the rows given before it.
+const TOPS: [(&[u8], u16, PageFault, &[u8]); 7] = [
+    (
+        b"P4\n8 3\n\x01\x02",
+        u16::MAX,
+        PageFault::Truncated { at: 9 },
+        b"\x01\x02",
+    ),
+    (
+        b"P4\n16 2\n\x01\x02\x03",
+        u16::MAX,
+        PageFault::Truncated { at: 11 },
+        b"\x01\x02",
+    ),
+    (
+        b"P4\n8 1\n\x01\x02",
+        u16::MAX,
+        PageFault::Trailing { at: 8 },
+        b"\x01",
+    ),
+    (b"P4\n8 3\n\x01\x02\x03", 2, PageFault::Memory, b"\x01\x02"),
+    (
+        b"P1\n2 2\n110x",
+        u16::MAX,
+        PageFault::Pixel { at: 10 },
+        b"\xc0",
+    ),
+    (
+        b"P1\n2 2\n1101x",
+        u16::MAX,
+        PageFault::Trailing { at: 11 },
+        b"\xc0\x40",
+    ),
+    (b"P1\n2 2\n1101 x", 1, PageFault::Memory, b"\xc0"),
+];
+
 #[test]
 fn a_fault_leaves_the_top_rows(rt: HostRuntime) -> Result<(), Fail> {
-    let cases: [(&[u8], u16, PageFault, &[u8]); 7] = [
-        (
-            b"P4\n8 3\n\x01\x02",
-            u16::MAX,
-            PageFault::Truncated { at: 9 },
-            b"\x01\x02",
-        ),
-        (
-            b"P4\n16 2\n\x01\x02\x03",
-            u16::MAX,
-            PageFault::Truncated { at: 11 },
-            b"\x01\x02",
-        ),
-        (
-            b"P4\n8 1\n\x01\x02",
-            u16::MAX,
-            PageFault::Trailing { at: 8 },
-            b"\x01",
-        ),
-        (b"P4\n8 3\n\x01\x02\x03", 2, PageFault::Memory, b"\x01\x02"),
-        (
-            b"P1\n2 2\n110x",
-            u16::MAX,
-            PageFault::Pixel { at: 10 },
-            b"\xc0",
-        ),
-        (
-            b"P1\n2 2\n1101x",
-            u16::MAX,
-            PageFault::Trailing { at: 11 },
-            b"\xc0\x40",
-        ),
-        (b"P1\n2 2\n1101 x", 1, PageFault::Memory, b"\xc0"),
-    ];
-    for (input, refuses, fault, bytes) in cases {
+    for (input, refuses, fault, bytes) in TOPS {
         let outcome = read(rt.alloc(), input, 1, refuses)?;
         assert_eq!(rt; outcome.result, Err(fault), "{input:?}");
         assert_eq!(rt; outcome.rows.bytes.as_slice(), bytes, "{input:?}");

@@ -1,4 +1,4 @@
-use Rattle.std.proofs.Common.{length, refl, ◌∙◌, arith}
+use Rattle.std.proofs.Common.{refl, ◌∙◌, arith}
 use Rattle.std.proofs.lemmas.Result.{err_from_is_err_and}
 use Rattle.pbm_reader.proofs.PixelLoop.{filling_begins, filling_on, filling_white, filling_fails, filled}
 use Rattle.pbm_reader.proofs.plain.fill_pixels.Goals as goal

@@ -1,7 +1,6 @@
-use Rattle.std.proofs.Common.{◌≡◌, ℕ, List, [], ◌∷◌, Option, Some, None, sym, ◌∙◌, subst, arith, refl}
-use Rattle.std.specs.Prelude.{IfSome, IfNone}
+use Rattle.std.proofs.Common.{◌≡◌, ℕ, [], ◌∷◌, sym, ◌∙◌, subst, arith, refl}
 use Rattle.std.proofs.lemmas.Result.{err_from_is_err_and}
-use Rattle.pbm_reader.specs.declared.fault.PageFault.TheVariants.{ReadFault, Truncated}
+use Rattle.pbm_reader.specs.declared.fault.PageFault.TheVariants.{Truncated}
 use Rattle.pbm_reader.specs.declared.plain.PixelStep.TheVariants.{Blank, Found, Wrong}
 use Rattle.layout_outside.specs.Taken.{Took, TookAll}
 use Rattle.pbm_reader.specs.Plain.{pixel_step, PixelsFail}

@@ -1,5 +1,5 @@
-use Rattle.std.proofs.Common.{◌≡◌, ℕ, ◌+◌, ◌<◌, [], ◌∷◌, Option, Some, Result, Ok, Err, subst, arith}
-use Rattle.std.specs.Prelude.{IfSome, OnOk, IfErr}
+use Rattle.std.proofs.Common.{◌+◌, ◌<◌, [], ◌∷◌, Result, Ok, Err, arith}
+use Rattle.std.specs.Prelude.{OnOk, IfErr}
 use Rattle.pbm_reader.specs.Spelling.{MayFollow}
 use Rattle.layout_outside.specs.Taken.{Took}
 use Rattle.pbm_reader.specs.Tail.{RestFails, TailFails, TookRest, TookTail}

@@ -1,4 +1,4 @@
-use Rattle.std.proofs.Common.{arith, refl, ◌∙◌}
+use Rattle.std.proofs.Common.{arith, ◌∙◌}
 use Rattle.pbm_reader.proofs.TailLoop.{skipping_on, skipping_long}
 use Rattle.pbm_reader.proofs.tail.skip_rest.Goals as goal
 
