@@ -29,6 +29,7 @@ fault_in : (fault : PageFault) → IsFaultStatus (fault_status fault)
 fault_in faults.HeaderTooLong = inr (inl refl)
 fault_in (faults.TooLarge width height) = inr (inl refl)
 fault_in faults.InputTooLong = inr (inl refl)
+fault_in faults.TooManyImages = inr (inl refl)
 fault_in faults.ReadFault = inr (inr (inl refl))
 fault_in faults.Memory = inr (inr (inr refl))
 fault_in fault = inl refl

@@ -26,6 +26,7 @@ fault_line (faults.Truncated at) = place_line (codes "truncated") at
 fault_line (faults.Pixel at) = place_line (codes "pixel") at
 fault_line (faults.Trailing at) = place_line (codes "trailing") at
 fault_line faults.InputTooLong = codes "limit: input over 268435456 bytes\n"
+fault_line faults.TooManyImages = codes "limit: over 256 images\n"
 fault_line faults.ReadFault = codes "read failed\n"
 fault_line faults.Memory = codes "out of memory\n"
 

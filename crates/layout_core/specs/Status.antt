@@ -25,6 +25,7 @@ abbrev pub fault_status : PageFault → ℕ
 fault_status faults.HeaderTooLong = 4
 fault_status (faults.TooLarge width height) = 4
 fault_status faults.InputTooLong = 4
+fault_status faults.TooManyImages = 4
 fault_status faults.ReadFault = 5
 fault_status faults.Memory = 7
 fault_status fault = 3

@@ -130,7 +130,10 @@ fn status_of_fault(fault: &PageFault) -> u8
         | PageFault::Truncated { .. }
         | PageFault::Pixel { .. }
         | PageFault::Trailing { .. } => 3,
-        PageFault::HeaderTooLong | PageFault::TooLarge { .. } | PageFault::InputTooLong => 4,
+        PageFault::HeaderTooLong
+        | PageFault::TooLarge { .. }
+        | PageFault::InputTooLong
+        | PageFault::TooManyImages => 4,
         PageFault::ReadFault => 5,
         PageFault::Memory => 7,
     }
@@ -150,6 +153,7 @@ fn line_of_fault(fault: &PageFault) -> Line
         PageFault::Pixel { at } => line_of_place("pixel", *at),
         PageFault::Trailing { at } => line_of_place("trailing", *at),
         PageFault::InputTooLong => line_from("limit: input over 268435456 bytes\n"),
+        PageFault::TooManyImages => line_from("limit: over 256 images\n"),
         PageFault::ReadFault => line_from("read failed\n"),
         PageFault::Memory => line_from("out of memory\n"),
     }
