@@ -1,64 +1,30 @@
 -- The runs of a row of packed bytes, from the left.
-use Rattle.std.proofs.Common.{◌≡◌, ◌<◌, ◌≤◌, ℕ, zero, suc, ◌+◌, ◌-◌, ◌*◌, ◌/◌, ◌%◌, List, [], ◌∷◌, ◌++◌, length, get_or, inl, inr, refl, sym, ap, subst, ◌∙◌, arith}
+use Rattle.std.proofs.Common.{◌≡◌, ◌<◌, ◌≤◌, ℕ, ◌+◌, ◌-◌, ◌*◌, ◌/◌, ◌%◌, List, [], ◌∷◌, ◌++◌, length, get_or, inl, inr, refl, sym, ap, subst, ◌∙◌, arith}
 use Rattle.std.specs.Int.{bit_at}
 use Rattle.std.proofs.lemmas.Bool.{cases_lt}
 use Rattle.std.proofs.lemmas.List.{get_or-append_right, get_or_append_left, length-append}
-use Rattle.std.proofs.lemmas.Nat.Bits.{bit_at-zero, bit_at-lt}
 use Rattle.page_runs.specs.Page.{pixel}
 use Rattle.components.specs.declared.row_runs.Run.{Run}
 use Rattle.components.specs.Runs.{run_at, no_run, AddsRow}
 
--- ---- the pixels of a byte
-
--- a pixel that has not the one colour has the other
-pub other_colour : (colour : ℕ) (bits : List ℕ) (x : ℕ) → colour ≤ 1 → (pixel bits x ≡ colour → ⊥) → pixel bits x ≡ 1 - colour
-other_colour colour bits x small other = one_of_two colour (pixel bits x) small (bit_at-lt (get_or bits (x / 8) 0) (7 - x % 8)) other
-  where
-    one_of_two : (a b : ℕ) → a ≤ 1 → b < 2 → (b ≡ a → ⊥) → b ≡ 1 - a
-    one_of_two zero zero small lt other = absurd (other refl)
-    one_of_two zero (suc zero) small lt other = refl
-    one_of_two (suc zero) zero small lt other = refl
-    one_of_two (suc zero) (suc zero) small lt other = absurd (other refl)
-    one_of_two (suc (suc a)) b small lt other = absurd (omega (arith, small))
-    one_of_two a (suc (suc b)) small lt other = absurd (omega (arith, lt))
-
-ones : (j : ℕ) → j < 8 → bit_at 255 j ≡ 1
-ones zero lt = refl
-ones (suc zero) lt = refl
-ones (suc (suc zero)) lt = refl
-ones (suc (suc (suc zero))) lt = refl
-ones (suc (suc (suc (suc zero)))) lt = refl
-ones (suc (suc (suc (suc (suc zero))))) lt = refl
-ones (suc (suc (suc (suc (suc (suc zero)))))) lt = refl
-ones (suc (suc (suc (suc (suc (suc (suc zero))))))) lt = refl
-ones (suc (suc (suc (suc (suc (suc (suc (suc n)))))))) lt = absurd (omega (arith, lt))
+-- ---- the pixels of a word
 
 -- the columns from one to another have the same pixel
 abbrev pub AreAll : ℕ → List ℕ → ℕ → ℕ → Type 0
 AreAll value bits from to = (k : ℕ) → from ≤ k → k < to → pixel bits k ≡ value
 
-pub one_passed : (value : ℕ) (bits : List ℕ) (from x : ℕ) → AreAll value bits from x → pixel bits x ≡ value → AreAll value bits from (x + 1)
-one_passed value bits from x all here k left right = elim (cases_lt k x) [
-  | inl passed ↦ all k left passed
-  | inr at ↦ let e : k ≡ x = omega (arith, at, right) in ap (pixel bits) e ∙ here
-]
-
-byte_passed : (value byte : ℕ) (bits : List ℕ) (from x next : ℕ) → ((j : ℕ) → j < 8 → bit_at byte j ≡ value)
-    → AreAll value bits from x → get_or bits (x / 8) 0 ≡ byte → next ≤ (x / 8 + 1) * 8 → AreAll value bits from next
-byte_passed value byte bits from x next each all is bound k left right = elim (cases_lt k x) [
+-- what a word of the row shows of the columns from x on
+pub word_passed : (value : ℕ) (bits : List ℕ) (word from x place next : ℕ) → AreAll value bits from x
+    → ((k : ℕ) → k < 64 → bit_at word (63 - k) ≡ pixel bits (x / 8 * 8 + k)) → ((k : ℕ) → x % 8 ≤ k → k < place → bit_at word (63 - k) ≡ value)
+    → place ≤ 64 → next ≤ x / 8 * 8 + place → AreAll value bits from next
+word_passed value bits word from x place next all is other within bound k left right = elim (cases_lt k x) [
   | inl passed ↦ all k left passed
   | inr here ↦
-      let same : k / 8 ≡ x / 8 = omega (arith, here, right, bound) in
-      let small : 7 - k % 8 < 8 = omega arith in
-      ap (λ (i : ℕ). bit_at (get_or bits i 0) (7 - k % 8)) same ∙ ap (λ (b : ℕ). bit_at b (7 - k % 8)) is ∙ each (7 - k % 8) small
+      let j = k - x / 8 * 8 in
+      let at : k ≡ x / 8 * 8 + j = omega (arith, here) in
+      let less : j < place = omega (arith, here, right, bound) in
+      ap (pixel bits) at ∙ sym (is j (omega (arith, less, within))) ∙ other j (omega (arith, here)) less
 ]
-
--- a byte all of whose pixels have the other colour
-pub whole_byte : (colour : ℕ) (bits : List ℕ) (from x next : ℕ) → colour ≤ 1 → AreAll (1 - colour) bits from x
-    → get_or bits (x / 8) 0 ≡ 255 * (1 - colour) → next ≤ (x / 8 + 1) * 8 → AreAll (1 - colour) bits from next
-whole_byte zero bits from x next small all is bound = byte_passed 1 255 bits from x next ones all is bound
-whole_byte (suc zero) bits from x next small all is bound = byte_passed 0 0 bits from x next (λ j lt. bit_at-zero j) all is bound
-whole_byte (suc (suc n)) bits from x next small all is bound = absurd (omega (arith, small))
 
 -- ---- one run more
 

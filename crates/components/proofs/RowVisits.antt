@@ -5,10 +5,7 @@ use Rattle.std.proofs.lemmas.Bool.{cases_lt}
 use Rattle.std.proofs.lemmas.List.{get_or_default}
 use Rattle.components.specs.declared.row_runs.Run.{Run}
 use Rattle.components.specs.Runs.{run_at, no_run, AreRunsInOrder, AreStarts, IsTouching, IsMarkedRun}
-
--- the right ends of these runs do not fall
-abbrev pub DoRise : List Run → ℕ → ℕ → Type 0
-DoRise runs from to = (i j : ℕ) → from ≤ i → i < j → j < to → (run_at runs i).x1 ≤ (run_at runs j).x1
+use Rattle.components.specs.Reaching.{DoRise}
 
 module _ (runs : List Run) (starts : List ℕ) (in_order : AreRunsInOrder runs) (are : AreStarts runs starts) (row : ℕ) (within : row + 1 < length starts) where
   last_within : slice_index starts (row + 1) ≤ length runs

@@ -8,3 +8,4 @@ pub mod Scanning
 pub use Rattle.page_runs.specs.Page
 pub use Rattle.page_runs.specs.Packed
 pub use Rattle.layout_geom.specs.Rectangles
+pub mod Reaching

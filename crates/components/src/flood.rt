@@ -1,5 +1,5 @@
 //! The walk over one component, run by run.
-ghost use Rattle.std.specs.Prelude.{◌≡◌, ◌<◌, ◌≤◌, ◌+◌, ℕ, OnOk, IfOk, length};
+ghost use Rattle.std.specs.Prelude.{◌≡◌, ◌<◌, ◌≤◌, ◌+◌, ℕ, [], OnOk, IfOk, length};
 ghost use Rattle.page_runs.specs.Packed.{IsWhole, page_of};
 ghost use Rattle.layout_geom.specs.Sides.{AreSides};
 ghost use Rattle.layout_geom.specs.Rectangles.{HasSides};
@@ -10,12 +10,12 @@ ghost use Rattle.components.specs.Runs.{AreRunsInOrder, AreStarts, IsRunTable, I
 ghost use Rattle.components.specs.Runs.{IsMarkedRun, IsSeen, GrowsRuns, SpreadsOver};
 
 use crate::bounds::Bounds;
+use crate::reaching::first_reaching;
 use crate::row_runs::Run;
 use crate::run_table::RunTable;
 use layout_geom::Rect;
 use layout_limits::OutOfMemory;
 use page_runs::RunPage;
-use std::alloc::Global;
 
 /// Marks a run that has no mark, and lets it wait.
 fn visit(marks: &mut Vec<bool>, waiting: &mut Vec<usize>, i: usize) -> Result<(), OutOfMemory>
@@ -30,36 +30,14 @@ fn visit(marks: &mut Vec<bool>, waiting: &mut Vec<usize>, i: usize) -> Result<()
     Ok(())
 }
 
-/// The first of the runs from `from` up to but not including `to` that ends at this column or right
-/// of it; these runs lie in one row.
-fn first_reaching(runs: &[Run], from: usize, to: usize, x: u16) -> usize
-    requires order { from ≤ to }
-    requires within { to ≤ length runs.now }
-    requires rises { (i j : ℕ) → from ≤ i → i < j → j < to → (run_at runs.now i).x1 ≤ (run_at runs.now j).x1 }
-    ensures not_before { from ≤ result }
-    ensures within { result ≤ to }
-    ensures before { (i : ℕ) → from ≤ i → i < result → (run_at runs.now i).x1 < x }
-    ensures after { (i : ℕ) → result ≤ i → i < to → x ≤ (run_at runs.now i).x1 }
-{
-    let mut low = from;
-    let mut high = to;
-    while low < high {
-        let middle = low + (high - low) / 2;
-        if runs[middle].x1 < x {
-            low = middle + 1;
-        } else {
-            high = middle;
-        }
-    }
-    low
-}
-
-/// Visits the runs of the row above or below that touch this one, if the table has that row.
+/// Visits the runs of the row above or below that touch this one, if the table has that row. They are looked
+/// for at the place that the run has in its own row, counted from the left.
 fn visit_row(
     table: &RunTable,
     marks: &mut Vec<bool>,
     waiting: &mut Vec<usize>,
     run: Run,
+    place: usize,
     row: usize,
 ) -> Result<(), OutOfMemory>
     requires in_order { AreRunsInOrder table.now.runs.items }
@@ -75,8 +53,10 @@ fn visit_row(
     if row + 1 >= table.starts.len() {
         return Ok(());
     }
+    let start = table.starts[row];
     let to = table.starts[row + 1];
-    let from = first_reaching(&table.runs, table.starts[row], to, run.x0);
+    let near = start + place.min(to - start);
+    let from = first_reaching(&table.runs, start, to, near, run.x0);
     for i in from..to {
         if run.x1 < table.runs[i].x0 {
             return Ok(());
@@ -92,6 +72,7 @@ fn visit_above(
     marks: &mut Vec<bool>,
     waiting: &mut Vec<usize>,
     run: Run,
+    place: usize,
 ) -> Result<(), OutOfMemory>
     requires in_order { AreRunsInOrder table.now.runs.items }
     requires starts { AreStarts table.now.runs.items table.now.starts.items }
@@ -103,7 +84,7 @@ fn visit_above(
         → IsTouching run (run_at table.now.runs.items i) → IsMarkedRun marks.new.items i) }
 {
     if run.row > 0 {
-        visit_row(table, marks, waiting, run, usize::from(run.row) - 1)?;
+        visit_row(table, marks, waiting, run, place, usize::from(run.row) - 1)?;
     }
     Ok(())
 }
@@ -120,18 +101,19 @@ fn box_of(bounds: Bounds) -> Rect
 }
 
 /// Marks the runs of the component that a run without a mark belongs to, and gives the component's
-/// box. Each run waits at most once.
+/// box. Each run waits at most once; before and after no run waits, so that one list serves all components.
 pub(crate) fn flood(
-    alloc: Global,
     page: &RunPage,
     table: &RunTable,
     marks: &mut Vec<bool>,
+    waiting: &mut Vec<usize>,
     start: usize,
 ) -> Result<Rect, OutOfMemory>
     requires whole { IsWhole page.now }
     requires table { IsRunTable (page_of page.now) table.now.runs.items table.now.starts.items }
     requires len { length marks.old.items ≡ length table.now.runs.items }
     requires below { start < length table.now.runs.items }
+    requires idle { waiting.old.items ≡ [] }
     requires apart { (p : PlaceValue) → IsConnected (page_of page.now) (first_of (run_at table.now.runs.items start)) p
         → IsSeen table.now.runs.items marks.old.items p → ⊥ }
     ensures spreads { OnOk result (SpreadsOver (page_of page.now) (first_of (run_at table.now.runs.items start))
@@ -139,20 +121,21 @@ pub(crate) fn flood(
     ensures len { OnOk result (length marks.new.items ≡ length marks.old.items) }
     ensures keeps { OnOk result ((i : ℕ) → IsMarkedRun marks.old.items i → IsMarkedRun marks.new.items i) }
     ensures marked { OnOk result (IsMarkedRun marks.new.items start) }
+    ensures idle { OnOk result (waiting.new.items ≡ []) }
     ensures is_box { IfOk result (IsBoxOf (page_of page.now) (first_of (run_at table.now.runs.items start))) }
 {
     // A page's limits are known to the proof once its height was asked for.
     let _size = page.height();
     let first = table.runs[start];
-    let mut waiting = Vec::new(alloc);
     marks[start] = true;
     waiting.push(start)?;
     let mut bounds = Bounds::of(first);
     while let Some(i) = waiting.pop() {
         let run = table.runs[i];
         bounds.add(run);
-        visit_above(table, marks, &mut waiting, run)?;
-        visit_row(table, marks, &mut waiting, run, usize::from(run.row) + 1)?;
+        let place = i.saturating_sub(table.starts[usize::from(run.row)]);
+        visit_above(table, marks, waiting, run, place)?;
+        visit_row(table, marks, waiting, run, place, usize::from(run.row) + 1)?;
     }
     Ok(box_of(bounds))
 }

@@ -6,7 +6,9 @@ mod bounds;
 mod flood;
 mod kept;
 mod place;
+mod reaching;
 mod row_runs;
+mod row_words;
 mod run_table;
 mod scan;
 #[cfg(test)]

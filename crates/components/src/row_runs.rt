@@ -3,13 +3,8 @@ ghost use Rattle.std.specs.Prelude.{◌≡◌, ◌<◌, ◌≤◌, ◌-◌, ◌/
 ghost use Rattle.page_runs.specs.Page.{row_len, pixel};
 ghost use Rattle.components.specs.Runs.{AddsRow};
 
+use crate::row_words::{BLACK, WHITE, WORD_PIXELS, first_in_word, word_at};
 use layout_limits::{MAX_SIDE, OutOfMemory};
-
-/// A pixel of a packed row that is black.
-const BLACK: u8 = 1;
-
-/// A pixel of a packed row that is white.
-const WHITE: u8 = 0;
 
 /// Black pixels of one row, from `x0` up to but not including `x1`, as many as follow one another.
 #[derive(Clone, Copy, Debug)]
@@ -22,16 +17,8 @@ pub struct Run {
     pub x1: u16,
 }
 
-/// The pixel in this column: 1 for black.
-fn pixel(bits: &[u8], x: u16) -> u8
-    requires { x / 8 < length bits.now }
-    ensures { result ≡ pixel bits.now x }
-{
-    (bits[usize::from(x / 8)] >> (7 - x % 8)) % 2
-}
-
 /// The first column from `from` on whose pixel has this colour, 1 for black and 0 for white, or the
-/// width where there is none. A byte that has no such pixel is skipped whole.
+/// width where there is none. A word of eight bytes that has no such pixel is skipped whole.
 fn next_pixel(bits: &[u8], from: u16, width: u16, colour: u8) -> u16
     requires colour { colour ≤ 1 }
     requires within { from ≤ width }
@@ -44,12 +31,11 @@ fn next_pixel(bits: &[u8], from: u16, width: u16, colour: u8) -> u16
 {
     let mut x = from;
     while x < width {
-        if bits[usize::from(x / 8)] == 255 * (1 - colour) {
-            x = width.min((x / 8 + 1) * 8);
-        } else if pixel(bits, x) == colour {
+        let word = word_at(bits, usize::from(x / 8));
+        let place = first_in_word(word, x % 8, colour);
+        x = width.min(x / 8 * 8 + place);
+        if place < WORD_PIXELS {
             return x;
-        } else {
-            x += 1;
         }
     }
     width

@@ -1,5 +1,5 @@
 //! One component after the other.
-ghost use Rattle.std.specs.Prelude.{◌≡◌, ◌<◌, ◌≤◌, ◌+◌, ℕ, OnOk, IfOk, IsTrue, ◌↔◌, length};
+ghost use Rattle.std.specs.Prelude.{◌≡◌, ◌<◌, ◌≤◌, ◌+◌, ℕ, [], OnOk, IfOk, IsTrue, ◌↔◌, length};
 ghost use Rattle.page_runs.specs.Packed.{IsWhole, page_of};
 ghost use Rattle.components.specs.Boxes.{IsLarge};
 ghost use Rattle.components.specs.Runs.{IsRunTable, IsMarkedRun, IsSeen};
@@ -25,10 +25,10 @@ fn is_large(rect: &Rect) -> bool
 
 /// Finds the component of a run that has no mark yet.
 fn scan(
-    alloc: Global,
     page: &RunPage,
     table: &RunTable,
     marks: &mut Vec<bool>,
+    waiting: &mut Vec<usize>,
     boxes: &mut Vec<Rect>,
     i: usize,
 ) -> Result<(), OutOfMemory>
@@ -36,15 +36,17 @@ fn scan(
     requires table { IsRunTable (page_of page.now) table.now.runs.items table.now.starts.items }
     requires len { length marks.old.items ≡ length table.now.runs.items }
     requires below { i < length table.now.runs.items }
+    requires idle { waiting.old.items ≡ [] }
     requires scanned { IsScanned (page_of page.now) (IsSeen table.now.runs.items marks.old.items) boxes.old.items }
     ensures scanned { OnOk result (IsScanned (page_of page.now) (IsSeen table.now.runs.items marks.new.items) boxes.new.items) }
     ensures len { OnOk result (length marks.new.items ≡ length marks.old.items) }
     ensures keeps { OnOk result ((k : ℕ) → IsMarkedRun marks.old.items k → IsMarkedRun marks.new.items k) }
     ensures marked { OnOk result (IsMarkedRun marks.new.items i) }
+    ensures idle { OnOk result (waiting.new.items ≡ []) }
     ensures few { OnOk result (length boxes.new.items ≤ length boxes.old.items + 1) }
 {
     if !marks[i] {
-        let found = flood(alloc, page, table, marks, i)?;
+        let found = flood(page, table, marks, waiting, i)?;
         if is_large(&found) {
             boxes.push(found)?;
         }
@@ -62,9 +64,10 @@ pub(crate) fn kept_boxes(alloc: Global, page: &RunPage) -> Result<Vec<Rect>, Out
     let _size = page.height();
     let table = run_table(alloc, page)?;
     let mut marks = vec![in alloc; false; table.runs.len()]?;
+    let mut waiting = Vec::new(alloc);
     let mut boxes = Vec::new(alloc);
     for i in 0..table.runs.len() {
-        scan(alloc, page, &table, &mut marks, &mut boxes, i)?;
+        scan(page, &table, &mut marks, &mut waiting, &mut boxes, i)?;
     }
     Ok(boxes)
 }

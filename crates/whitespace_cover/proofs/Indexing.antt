@@ -1,5 +1,5 @@
 -- How cells come to be an index of rectangles, and what an index says of the rectangles that overlap another.
-use Rattle.std.proofs.Common.{zero, suc, add-one, ◌≡◌, ℕ, ◌+◌, ◌*◌, ◌-◌, ◌/◌, ◌<◌, ◌≤◌, ◌⊎◌, List, [], ◌∷◌, ◌++◌, length, get_or, set, max, min, take, drop, All, Any, Contains, arith, ap, sym, ◌∙◌, subst, inl, inr, ⊎_elim, refl, get_or-set_same, get_or-set_other, length-set}
+use Rattle.std.proofs.Common.{zero, suc, add-one, ◌≡◌, ℕ, ◌+◌, ◌*◌, ◌-◌, ◌/◌, ◌<◌, ◌≤◌, ◌⊎◌, List, [], ◌∷◌, ◌++◌, length, get_or, set, max, min, take, drop, All, Any, Contains, arith, ap, sym, ◌∙◌, subst, inl, inr, ⊎_elim, refl, Option, Some, None, get_or-set_same, get_or-set_other, length-set}
 use Rattle.std.proofs.lemmas.List.{take-append-drop, get_or_past, get_or_default}
 use Rattle.std.proofs.lemmas.List.Elements.{All-contains, Contains-append_left, Contains-append_right, Contains-push, Contains-push_cases, Contains-get_or}
 use Rattle.std.proofs.Math.Seq.{drop-cons}
@@ -7,7 +7,8 @@ use Rattle.std.proofs.lemmas.Bool.{cases_lt}
 use Rattle.layout_geom.specs.declared.rect.Rect.{Rect}
 use Rattle.layout_geom.specs.Rectangles.{HasPixel, HasSides, Overlaps, Encloses, SharesPixel, IsClear}
 use Rattle.layout_geom.specs.PixelLaws.{shares_pixel, overlaps, has_pixels_of}
-use Rattle.whitespace_cover.specs.Index.{cell_of, list_at, SomeHasPixel, IsIndex, Adds, IsFromMiddle}
+use Rattle.whitespace_cover.specs.declared.cells.Cells.{Cells}
+use Rattle.whitespace_cover.specs.Index.{cell_of, list_at, SomeHasPixel, IsIndex, IsIndexed, Adds, IsFromMiddle}
 use Rattle.whitespace_cover.proofs.Barring.{both_clear}
 
 -- one of the rectangles has the pixel
@@ -123,15 +124,15 @@ module _ (rect : Rect) where
       (cases_lt (y / 64) row)
 
 -- cells without rectangles are an index of none
-pub index_of_none : (lists : List (List Rect)) → length lists ≡ 16384 → All (λ list. list ≡ []) lists → IsIndex [] lists
-index_of_none lists whole empty = record {
+pub index_of_none : (rows : ℕ) (lists : List (List Rect)) → length lists ≡ rows * 128 → All (λ list. list ≡ []) lists → IsIndex rows [] lists
+index_of_none rows lists whole empty = record {
   whole = whole;
   only = λ cell r there.
       ⊎_elim
       (λ within. subst (λ (xs : List Rect). Contains xs r) (empty cell [] within) there)
       (λ outside. subst (λ (xs : List Rect). Contains xs r) (get_or_past lists cell [] outside) there)
       (cases_lt cell (length lists));
-  complete = λ x y held. absurd (held_none x y held);
+  complete = λ x y above held. absurd (held_none x y held);
 }
 
 held_either : (r : Rect) (rects : List Rect) (x y : ℕ) → SomeHasPixel (r ∷ rects) x y → HasPixel r x y ⊎ SomeHasPixel rects x y
@@ -139,21 +140,22 @@ held_either r rects x y (zero, q, within, at, has) = inl (subst (λ (s : Rect). 
 held_either r rects x y (suc k, q, within, at, has) = inr (k, q, omega arith, at, has)
 
 -- one rectangle more, the one before the others
-pub index_more : (rects : List Rect) (i : ℕ) (rect : Rect) (old new : List (List Rect)) → i < length rects → rect ≡ get_or rects i rect → IsIndex (drop (i + 1) rects) old → Adds rect old new → ((x y : ℕ) → HasPixel rect x y → SomeHasPixel (list_at new (cell_of x y)) x y) → IsIndex (drop i rects) new
-index_more rects i rect old new within is index adds taken =
+pub index_more : (rows : ℕ) (rects : List Rect) (i : ℕ) (rect : Rect) (old new : List (List Rect)) → i < length rects → rect ≡ get_or rects i rect → IsIndex rows (drop (i + 1) rects) old → Adds rect old new
+    → ((x y : ℕ) → HasPixel rect x y → y / 64 < rows → SomeHasPixel (list_at new (cell_of x y)) x y) → IsIndex rows (drop i rects) new
+index_more rows rects i rect old new within is index adds taken =
     let behind : List Rect = drop (i + 1) rects in
     let more : drop i rects ≡ rect ∷ behind = drop-cons rects i rect within ∙ ap (λ (r : Rect). r ∷ drop (suc i) rects) (sym is) ∙ ap (λ (n : ℕ). rect ∷ drop n rects) (sym (add-one i)) in
-    subst (λ (xs : List Rect). IsIndex xs new) (sym more) (record {
+    subst (λ (xs : List Rect). IsIndex rows xs new) (sym more) (record {
       whole = adds.whole ∙ index.whole;
       only = λ cell r there.
           ⊎_elim
           (λ before. Contains-append_right (rect ∷ []) behind r (index.only cell r before))
           (λ last. subst (λ (q : Rect). Contains (rect ∷ behind) q) (sym last) (0, omega arith, refl))
           (adds.only cell r there);
-      complete = λ x y held.
+      complete = λ x y above held.
           ⊎_elim
-          (λ here. taken x y here)
-          (λ before. adds.kept (cell_of x y) x y (index.complete x y before))
+          (λ here. taken x y here above)
+          (λ before. adds.kept (cell_of x y) x y (index.complete x y above before))
           (held_either rect behind x y held);
     })
 
@@ -173,12 +175,12 @@ one_place first count k a b one two =
     one
 
 -- a rectangle that is clear of what its cells list is clear of all that the index knows
-pub clear_by_cells : (rects : List Rect) (lists : List (List Rect)) (r : Rect) → IsIndex rects lists → ((x y : ℕ) → HasPixel r x y → IsClear r (list_at lists (cell_of x y))) → IsClear r rects
-clear_by_cells rects lists r index clear = λ k d within meets.
+pub clear_by_cells : (rows : ℕ) (rects : List Rect) (lists : List (List Rect)) (r : Rect) → r.y1 ≤ rows * 64 → IsIndex rows rects lists → ((x y : ℕ) → HasPixel r x y → IsClear r (list_at lists (cell_of x y))) → IsClear r rects
+clear_by_cells rows rects lists r reaches index clear = λ k d within meets.
     let o : Rect = get_or rects k d in
     let pixel : SharesPixel r o = shares_pixel r o meets in
     let (j, item, inside, at, has) : SomeHasPixel (list_at lists (cell_of pixel.x pixel.y)) pixel.x pixel.y =
-    index.complete pixel.x pixel.y (held_by rects o pixel.x pixel.y (Contains-get_or rects k d within) pixel.in_second) in
+    index.complete pixel.x pixel.y (omega (arith, reaches, pixel.in_first.to_bottom)) (held_by rects o pixel.x pixel.y (Contains-get_or rects k d within) pixel.in_second) in
     All-contains (λ box. Overlaps r box → ⊥) (list_at lists (cell_of pixel.x pixel.y)) item (clear pixel.x pixel.y pixel.in_first) (j, inside, at)
     (overlaps r item (record { x = pixel.x; y = pixel.y; in_first = pixel.in_first; in_second = has }))
 
@@ -195,3 +197,13 @@ among_last rects count r there = subst (λ (xs : List Rect). Contains xs r) (tak
 -- the list that is read at a place
 pub list_read : (lists : List (List Rect)) (i : ℕ) (list : List Rect) → i < length lists → list ≡ get_or lists i list → list ≡ list_at lists i
 list_read lists i list within is = is ∙ get_or_default lists i list [] within
+
+-- an index that reaches a rectangle reaches what lies in it
+pub indexed_inside : (outer r : Rect) (rects : List Rect) (cells : Option Cells) → Encloses outer r → IsIndexed outer rects cells → IsIndexed r rects cells
+indexed_inside outer r rects None inside indexed = tt
+indexed_inside outer r rects (Some cells) inside indexed = record {
+  rows = indexed.rows;
+  reaches = omega (arith, indexed.reaches, inside.bottom);
+  within = indexed.within;
+  index = indexed.index;
+}

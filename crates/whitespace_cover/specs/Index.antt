@@ -1,9 +1,9 @@
 -- An index of rectangles by the cells of `CELL_SIDE` by `CELL_SIDE` pixels that they reach into.
-use Rattle.std.specs.Prelude.{◌≡◌, ℕ, ◌+◌, ◌*◌, ◌/◌, ◌≤◌, ◌⊎◌, List, [], length, take, slice_index_or, Option, IfSome, Any, Contains}
+use Rattle.std.specs.Prelude.{◌≡◌, ℕ, ◌+◌, ◌*◌, ◌/◌, ◌<◌, ◌≤◌, ◌⊎◌, List, [], length, take, slice_index_or, Option, IfSome, Any, Contains}
 use Rattle.layout_geom.specs.declared.rect.Rect.{Rect}
 use Rattle.layout_geom.specs.Rectangles.{HasPixel}
 use Rattle.whitespace_cover.specs.declared.cells.Cells.{Cells}
-use Rattle.whitespace_cover.specs.declared.cells.TheConstants.{CELL_SIDE, CELLS_ACROSS, CELL_COUNT}
+use Rattle.whitespace_cover.specs.declared.cells.TheConstants.{CELL_SIDE, CELLS_ACROSS}
 
 -- the number of the cell of a pixel, row of cells by row
 abbrev pub cell_of : ℕ → ℕ → ℕ
@@ -17,19 +17,21 @@ list_at lists cell = slice_index_or lists cell []
 abbrev pub SomeHasPixel : List Rect → ℕ → ℕ → Type 0
 SomeHasPixel rects x y = Any (λ r. HasPixel r x y) rects
 
--- the cells list no other rectangles than these, and each pixel of these is in a rectangle that its cell lists
-pub record IsIndex (rects : List Rect) (lists : List (List Rect)) : Type 0 where
-  pub whole : length lists ≡ CELL_COUNT
+-- the cells of these rows list no other rectangles than these, and each pixel of these in the rows is in a rectangle that its cell lists
+pub record IsIndex (rows : ℕ) (rects : List Rect) (lists : List (List Rect)) : Type 0 where
+  pub whole : length lists ≡ rows * CELLS_ACROSS
   pub only : (cell : ℕ) (r : Rect) → Contains (list_at lists cell) r → Contains rects r
-  pub complete : (x y : ℕ) → SomeHasPixel rects x y → SomeHasPixel (list_at lists (cell_of x y)) x y
+  pub complete : (x y : ℕ) → y / CELL_SIDE < rows → SomeHasPixel rects x y → SomeHasPixel (list_at lists (cell_of x y)) x y
 
--- the cells are an index of the first of the rectangles
-pub record IsIndexOf (rects : List Rect) (cells : Cells) : Type 0 where
+-- the cells are an index of the first of the rectangles, as far down as a rectangle reaches
+pub record IsIndexOf (reached : Rect) (rects : List Rect) (cells : Cells) : Type 0 where
+  pub rows : ℕ
+  pub reaches : reached.y1 ≤ rows * CELL_SIDE
   pub within : cells.count ≤ length rects
-  pub index : IsIndex (take cells.count rects) cells.lists.items
+  pub index : IsIndex rows (take cells.count rects) cells.lists.items
 
-abbrev pub IsIndexed : List Rect → Option Cells → Type 0
-IsIndexed rects cells = IfSome cells (IsIndexOf rects)
+abbrev pub IsIndexed : Rect → List Rect → Option Cells → Type 0
+IsIndexed reached rects cells = IfSome cells (IsIndexOf reached rects)
 
 -- the cells may list a rectangle more, and what they listed has its pixels as before
 pub record Adds (rect : Rect) (old new : List (List Rect)) : Type 0 where

@@ -1,5 +1,5 @@
 //! An index of rectangles by cells of 64 by 64 pixels, which finds those that overlap a rectangle.
-ghost use Rattle.std.specs.Prelude.{◌≡◌, ℕ, ◌+◌, ◌*◌, ◌/◌, ◌<◌, ◌≤◌, ◌⊎◌, ◌++◌, ◌∷◌, [], length, All};
+ghost use Rattle.std.specs.Prelude.{◌≡◌, ℕ, ◌+◌, ◌-◌, ◌*◌, ◌/◌, ◌<◌, ◌≤◌, ◌⊎◌, ◌++◌, ◌∷◌, [], length, All};
 ghost use Rattle.std.specs.Prelude.{Any, Contains, IsTrue, IfOk, OnOk, IfSome, IfNone};
 ghost use Rattle.layout_geom.specs.declared.rect.Rect.{Rect};
 ghost use Rattle.layout_geom.specs.Rectangles.{HasPixel, Overlaps, Encloses, IsClear};
@@ -13,13 +13,10 @@ use std::alloc::Global;
 /// The columns of a cell, and its rows.
 const CELL_SIDE: usize = 64;
 
-/// The cells of a row of cells, as many as the widest pages need, and the rows of cells.
+/// The cells of a row of cells, as many as the widest pages need; and the most rows of cells.
 const CELLS_ACROSS: usize = MAX_SIDE as usize / CELL_SIDE;
 
-/// All the cells.
-const CELL_COUNT: usize = CELLS_ACROSS * CELLS_ACROSS;
-
-/// An index of the first rectangles of a list.
+/// An index of the first rectangles of a list, in the rows of cells that a page reaches into.
 #[derive(Drop)]
 pub(crate) struct Cells {
     /// How many rectangles it knows.
@@ -35,13 +32,15 @@ fn cell(pixel: u16) -> usize
     pixel as usize / CELL_SIDE
 }
 
-/// Cells that list no rectangle.
-fn empty_lists(alloc: Global) -> Result<Vec<Rects>, OutOfMemory>
-    ensures count { IfOk result (λ lists. length lists.items ≡ CELL_COUNT) }
+/// Rows of cells that list no rectangle.
+fn empty_lists(alloc: Global, rows: usize) -> Result<Vec<Rects>, OutOfMemory>
+    requires { rows ≤ CELLS_ACROSS }
+    ensures count { IfOk result (λ lists. length lists.items ≡ rows * CELLS_ACROSS) }
     ensures empty { IfOk result (λ lists. All (λ list. list ≡ []) lists.items) }
 {
-    let mut lists = Vec::with_capacity(alloc, CELL_COUNT)?;
-    for _ in 0..CELL_COUNT {
+    let count = rows * CELLS_ACROSS;
+    let mut lists = Vec::with_capacity(alloc, count)?;
+    for _ in 0..count {
         lists.push(Rects::new(alloc))?;
     }
     Ok(lists)
@@ -86,8 +85,8 @@ fn put_in_cell(list: &mut Rects, row: usize, column: usize, rect: &Rect) -> Resu
 
 /// Lists a rectangle in the cells of a row.
 fn put_in_row(lists: &mut [Rects], row: usize, rect: &Rect) -> Result<(), OutOfMemory>
-    requires whole { length lists.old ≡ CELL_COUNT }
     requires row { row < CELLS_ACROSS }
+    requires there { (row + 1) * CELLS_ACROSS ≤ length lists.old }
     ensures adds { OnOk result (Adds rect.now lists.old lists.new) }
     ensures taken { OnOk result ((x y : ℕ) → HasPixel rect.now x y → y / CELL_SIDE ≡ row
         → SomeHasPixel (list_at lists.new (cell_of x y)) x y) }
@@ -98,26 +97,29 @@ fn put_in_row(lists: &mut [Rects], row: usize, rect: &Rect) -> Result<(), OutOfM
     Ok(())
 }
 
-/// Lists a rectangle in the cells that it reaches into.
-fn put(lists: &mut [Rects], rect: &Rect) -> Result<(), OutOfMemory>
-    requires { length lists.old ≡ CELL_COUNT }
+/// Lists a rectangle in the cells that it reaches into, as far as there are rows of cells.
+fn put(lists: &mut [Rects], rows: usize, rect: &Rect) -> Result<(), OutOfMemory>
+    requires rows { length lists.old ≡ rows * CELLS_ACROSS }
+    requires few { rows ≤ CELLS_ACROSS }
     ensures adds { OnOk result (Adds rect.now lists.old lists.new) }
-    ensures taken { OnOk result ((x y : ℕ) → HasPixel rect.now x y → SomeHasPixel (list_at lists.new (cell_of x y)) x y) }
+    ensures taken { OnOk result ((x y : ℕ) → HasPixel rect.now x y → y / CELL_SIDE < rows
+        → SomeHasPixel (list_at lists.new (cell_of x y)) x y) }
 {
-    for row in cell(rect.y0())..cell(rect.y1() - 1) + 1 {
+    for row in cell(rect.y0())..rows.min(cell(rect.y1() - 1) + 1) {
         put_in_row(lists, row, rect)?;
     }
     Ok(())
 }
 
 /// Lists rectangles in the cells, the last of them first.
-fn put_rects(lists: &mut [Rects], rects: &[Rect]) -> Result<(), OutOfMemory>
-    requires whole { length lists.old ≡ CELL_COUNT }
+fn put_rects(lists: &mut [Rects], rows: usize, rects: &[Rect]) -> Result<(), OutOfMemory>
+    requires rows { length lists.old ≡ rows * CELLS_ACROSS }
+    requires few { rows ≤ CELLS_ACROSS }
     requires empty { All (λ list. list ≡ []) lists.old }
-    ensures { OnOk result (IsIndex rects.now lists.new) }
+    ensures { OnOk result (IsIndex rows rects.now lists.new) }
 {
     for done in 0..rects.len() {
-        put(lists, &rects[rects.len() - 1 - done])?;
+        put(lists, rows, &rects[rects.len() - 1 - done])?;
     }
     Ok(())
 }
@@ -140,8 +142,8 @@ fn from_middle(first: usize, count: usize, k: usize) -> usize
 
 /// The pivot of a rectangle in the first cell of a row that has one, from the middle outwards.
 fn pivot_in_row(lists: &[Rects], row: usize, least: u16, rect: &Rect) -> Option<Rect>
-    requires whole { length lists.now ≡ CELL_COUNT }
     requires row { row < CELLS_ACROSS }
+    requires there { (row + 1) * CELLS_ACROSS ≤ length lists.now }
     ensures some { IfSome result (λ pivot. (cell : ℕ) × Contains (list_at lists.now cell) pivot × Overlaps rect.now pivot) }
     ensures none { IfNone result ((x y : ℕ) → HasPixel rect.now x y → y / CELL_SIDE ≡ row
         → IsClear rect.now (list_at lists.now (cell_of x y))) }
@@ -161,15 +163,21 @@ fn pivot_in_row(lists: &[Rects], row: usize, least: u16, rect: &Rect) -> Option<
 impl Cells {
     ghost use Rattle.whitespace_cover.specs.Index.{IsIndexOf};
 
-    /// An index of the first rectangles of a list. Where it goes from smaller to larger ones, the cells
-    /// list fewer.
-    pub(crate) fn new(alloc: Global, rects: &[Rect], count: usize) -> Result<Cells, OutOfMemory>
+    /// An index of the first rectangles of a list, for the rectangles of a page. Where the list goes from
+    /// smaller to larger ones, the cells list fewer.
+    pub(crate) fn new(
+        alloc: Global,
+        page: &Rect,
+        rects: &[Rect],
+        count: usize,
+    ) -> Result<Cells, OutOfMemory>
         requires { count ≤ length rects.now }
-        ensures { IfOk result (IsIndexOf rects.now) }
+        ensures { IfOk result (IsIndexOf page.now rects.now) }
     {
         let (front, _) = rects.split_at(count);
-        let mut lists = empty_lists(alloc)?;
-        put_rects(&mut lists, front)?;
+        let rows = cell(page.y1() - 1) + 1;
+        let mut lists = empty_lists(alloc, rows)?;
+        put_rects(&mut lists, rows, front)?;
         Ok(Cells { count, lists })
     }
 }
@@ -177,7 +185,7 @@ impl Cells {
 /// The pivot of a rectangle among those that the cells list: it is looked for from the middle of the
 /// rectangle outwards, and taken from the first cell that has one.
 pub(crate) fn pivot_in_cells(lists: &[Rects], least: u16, rect: &Rect) -> Option<Rect>
-    requires { length lists.now ≡ CELL_COUNT }
+    requires { ((rect.now.y1 - 1) / CELL_SIDE + 1) * CELLS_ACROSS ≤ length lists.now }
     ensures some { IfSome result (λ pivot. (cell : ℕ) × Contains (list_at lists.now cell) pivot × Overlaps rect.now pivot) }
     ensures none { IfNone result ((x y : ℕ) → HasPixel rect.now x y → IsClear rect.now (list_at lists.now (cell_of x y))) }
 {

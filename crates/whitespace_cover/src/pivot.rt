@@ -57,7 +57,7 @@ pub(crate) fn pivot_of(
     cells: &Option<Cells>,
     rect: &Rect,
 ) -> Option<Rect>
-    requires { IsIndexed obstacles.now cells.now }
+    requires { IsIndexed rect.now obstacles.now cells.now }
     ensures some { IfSome result (λ pivot. Contains obstacles.now pivot × Overlaps rect.now pivot) }
     ensures none { IfNone result (IsClear rect.now obstacles.now) }
 {

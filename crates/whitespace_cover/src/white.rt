@@ -34,7 +34,7 @@ impl Model for White {
 
     ghost view = { λ white. record { page = white.page; obstacles = white.obstacles; least = white.least } };
 
-    ghost invariant = { λ white. IsIndexed white.obstacles white.cells };
+    ghost invariant = { λ white. IsIndexed white.page white.obstacles white.cells };
 }
 
 impl White {
@@ -55,8 +55,8 @@ impl White {
         }
     }
 
-    /// The same with an index, by which a search finds the obstacles near a rectangle. A search is shorter
-    /// where the obstacles go from smaller to larger ones.
+    /// The same with an index, by which a search finds the obstacles near a rectangle, where there are more
+    /// than are looked at first. A search is shorter where the obstacles go from smaller to larger ones.
     pub fn indexed(
         alloc: Global,
         page: Rect,
@@ -68,7 +68,10 @@ impl White {
         ensures least { IfOk result (λ white. white.least ≡ least) }
     {
         let count = obstacles.len().saturating_sub(LOOKED_AT_FIRST);
-        let cells = Some(Cells::new(alloc, obstacles.as_slice(), count)?);
+        if count == 0 {
+            return Ok(White::new(page, obstacles, least));
+        }
+        let cells = Some(Cells::new(alloc, &page, obstacles.as_slice(), count)?);
         Ok(White {
             page,
             obstacles,

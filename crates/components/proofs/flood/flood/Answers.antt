@@ -12,7 +12,7 @@ of-bounds-requires c =
 pub loop-i-init : goal.loop-i-init
 loop-i-init c =
     let read = read_run c.args.table.now.runs.items c.args.start c.index-first.result.now c.index-first.ensures c.requires.below in
-    rw (c.in_ok-push.ensures.items, c.new-waiting.ensures.items, c.of-bounds.ensures, read) (run_begins _ _ _ _ c.requires.table.are_runs c.requires.len c.requires.below c.requires.apart)
+    rw (c.in_ok-push.ensures.items, c.requires.idle, c.of-bounds.ensures, read) (run_begins _ _ _ _ c.requires.table.are_runs c.requires.len c.requires.below c.requires.apart)
 
 pub index-run-requires : goal.index-run-requires
 index-run-requires c =
@@ -24,6 +24,12 @@ add-requires c =
     let size = c.height-size.ensures.size (omega (arith, c.requires.whole.some, c.height-size.ensures.value)) in
     let below = popped_below _ _ _ _ _ _ _ _ _ c.loop-i.invariant c.in-Some.ensures.items in
     (run_read _ _ _ _ c.requires.table.are_runs size below c.index-run.ensures).small
+
+pub index-requires : goal.index-requires
+index-requires c =
+    let below = popped_below _ _ _ _ _ _ _ _ _ c.loop-i.invariant c.in-Some.ensures.items in
+    let read = read_run c.args.table.now.runs.items c.in-Some.i c.index-run.result.now c.index-run.ensures below in
+    rw (c.from.ensures, read) (omega (arith, c.requires.table.are_starts.high c.in-Some.i below, c.args.table.now.starts.ok.0))
 
 pub visit_above-requires-clause-row : goal.visit_above-requires-clause-row
 visit_above-requires-clause-row c =
@@ -44,7 +50,7 @@ loop-i-preserved c =
     let above = rw read at c.in_ok-visit_above.ensures.grows in
     let gains_above = rw read at c.in_ok-visit_above.ensures.gains in
     let under = rw read at c.in_ok-visit_row.ensures.grows in
-    let gains_under = rw (c.from.ensures, read) at c.in_ok-visit_row.ensures.gains in
+    let gains_under = rw (c.from-in-Some.ensures, read) at c.in_ok-visit_row.ensures.gains in
     rw (c.add.ensures, read)
     (run_goes_on _ _ _ _ _ _ _ _ _ _ _ _ _ c.requires.table.are_runs c.loop-i.invariant c.in-Some.ensures.items above gains_above under gains_under)
 

@@ -9,6 +9,7 @@ loop-i-init c =
       scanned = rw (all, c.new-boxes.ensures.items) (scan_begins _ _ (none_seen _ _));
       len = omega (arith, c.in_ok-marks.ensures.len, c.in_ok-marks.marks.ok.0, c.len.ensures, c.in_ok-table.table.runs.ok.0);
       marked = λ k lt. absurd (omega (arith, lt));
+      idle = c.new-waiting.ensures.items;
       few = rw c.new-boxes.ensures.items (omega arith);
     }
 

@@ -9,7 +9,7 @@ pub returns-in-Some-clause-some : goal.returns-in-Some-clause-some
 returns-in-Some-clause-some c =
     let cell : ℕ = c.args.row * 128 + c.from_middle-column.result in
     let list : c.as_slice.result.now ≡ list_at c.args.lists.now cell =
-    c.as_slice.ensures.same ∙ list_read c.args.lists.now cell c.index-lists-row.result (omega (arith, c.requires.whole, c.requires.row, c.from_middle-column.ensures.high)) c.index-lists-row.is in
+    c.as_slice.ensures.same ∙ list_read c.args.lists.now cell c.index-lists-row.result (omega (arith, c.requires.there, c.requires.row, c.from_middle-column.ensures.high)) c.index-lists-row.is in
     (cell, subst (λ (xs : List Rect). Contains xs c.in-Some.pivot) list c.in-Some.ensures.some.0, c.in-Some.ensures.some.1)
 
 pub loop-k-preserved : goal.loop-k-preserved
@@ -18,7 +18,7 @@ loop-k-preserved c =
     let count : ℕ = c.cell.result + 1 - c.cell-first.result in
     let cell : ℕ = c.args.row * 128 + c.from_middle-column.result in
     let list : c.as_slice.result.now ≡ list_at c.args.lists.now cell =
-    c.as_slice.ensures.same ∙ list_read c.args.lists.now cell c.index-lists-row.result (omega (arith, c.requires.whole, c.requires.row, c.from_middle-column.ensures.high)) c.index-lists-row.is in
+    c.as_slice.ensures.same ∙ list_read c.args.lists.now cell c.index-lists-row.result (omega (arith, c.requires.there, c.requires.row, c.from_middle-column.ensures.high)) c.index-lists-row.is in
     let clear : IsClear c.args.rect.now (list_at c.args.lists.now cell) = subst (λ (xs : List Rect). IsClear c.args.rect.now xs) list c.in_default.ensures.none in
     below_more (λ j. (column : ℕ) → IsFromMiddle first count j column → IsClear c.args.rect.now (list_at c.args.lists.now (c.args.row * 128 + column))) c.loop-k.k c.loop-k.invariant
     (λ column is.

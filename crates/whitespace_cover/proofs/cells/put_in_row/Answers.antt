@@ -9,7 +9,7 @@ pub loop-column-preserved : goal.loop-column-preserved
 loop-column-preserved c =
     let rect : Rect = c.args.rect.now in
     let cell : ℕ = c.args.row * 128 + c.loop-column.column in
-    let within : cell < length c.loop-column.lists = omega (arith, c.requires.whole, c.requires.row, c.loop-column.invariant.adds.whole, c.loop-column-test.true, c.cell-column-end.ensures, c.x1.ensures.value) in
+    let within : cell < length c.loop-column.lists = omega (arith, c.requires.there, c.requires.row, c.loop-column.invariant.adds.whole, c.loop-column-test.true, c.cell-column-end.ensures, c.x1.ensures.value) in
     let grown : IsGrown rect (list_at c.loop-column.lists cell) c.put_in_cell.new.list =
     subst (λ (old : List Rect). IsGrown rect old c.put_in_cell.new.list) (get_or_default c.loop-column.lists cell _ [] within) c.in_ok-put_in_cell.ensures.grown in
     record {

@@ -1,18 +1,23 @@
 use Rattle.std.proofs.Common.{◌∙◌, ℕ, List, Contains, ap, subst, sym}
 use Rattle.std.specs.List.{AllZip}
 use Rattle.layout_geom.specs.declared.rect.Rect.{Rect}
-use Rattle.layout_geom.specs.Rectangles.{IsClear}
+use Rattle.layout_geom.specs.Rectangles.{Encloses, IsClear}
 use Rattle.box_search.specs.Problems.{of_numbers}
 use Rattle.whitespace_cover.specs.Admissible.{IsRoomy}
 use Rattle.whitespace_cover.specs.Index.{IsIndexed}
 use Rattle.whitespace_cover.specs.Problem.{WhiteProblem, white_numbers}
 use Rattle.whitespace_cover.specs.Regions.{IsWhiteNode, IsNodeOf, roomy_parts}
 use Rattle.whitespace_cover.specs.WhiteLaws.{same_white_problem}
+use Rattle.whitespace_cover.proofs.Indexing.{indexed_inside}
 use Rattle.whitespace_cover.proofs.Steps.{settles_is, splits_is, outlines_of}
 use Rattle.whitespace_cover.proofs.white.WhiteSpace.step.Goals as goal
 
 pub pivot_of-requires : goal.pivot_of-requires
-pivot_of-requires c = subst (λ (xs : List Rect). IsIndexed xs c.self.inside.cells) (sym c.as_slice-obstacles.ensures.same) c.self.invariant
+pivot_of-requires c =
+    let fit : IsWhiteNode c.args.node.now c.args.self.now = of_numbers white_numbers same_white_problem (IsWhiteNode c.args.node.now) c.args.self.now c.requires.fits in
+    let inside = subst (λ (p : WhiteProblem). Encloses p.page c.args.node.now.work) (sym c.self.view_is) fit.inside in
+    subst (λ (xs : List Rect). IsIndexed c.args.node.now.work xs c.self.inside.cells) (sym c.as_slice-obstacles.ensures.same)
+    (indexed_inside _ _ _ _ inside c.self.invariant)
 
 pub returns-in-None-clause-step : goal.returns-in-None-clause-step
 returns-in-None-clause-step c =

@@ -1,6 +1,6 @@
 use Rattle.std.proofs.Common.{◌≤◌, ◌<◌, ◌-◌, ℕ}
 use Rattle.components.specs.Runs.{run_at}
-use Rattle.components.proofs.flood.first_reaching.Given as goal
+use Rattle.components.proofs.reaching.first_between.Given as goal
 
 abbrev pub invariant-loop-low : goal.invariant-loop-low
 invariant-loop-low l = record {
