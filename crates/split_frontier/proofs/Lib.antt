@@ -1,0 +1,11 @@
+mod Marks
+mod Moves
+mod Taking
+mod Giving
+mod Passes
+mod Named
+mod Leases
+mod Turns
+mod Ends
+mod Counting
+pub mod Working

@@ -1,0 +1,9 @@
+pub mod Claims
+pub mod Views
+pub mod Rule
+pub mod Steps
+pub mod Callers
+pub mod Holding
+pub mod Opening
+pub mod Closing
+pub mod Law

@@ -1,0 +1,287 @@
+//! The split search: one bound word, and of each shard a turn word and a slot that has its frontier.
+ghost use Rattle.std.specs.Prelude.{◌≡◌, ℕ, ◌+◌, ◌^◌, ◌<◌, ◌≤◌, [], true, length, All, IfOk, IfErr, vec_len};
+ghost use Rattle.std.specs.Option.{option_to_list};
+ghost use Rattle.box_search.specs.Search.{IsRootOf, IsSound, IsGreatestKey};
+ghost use Rattle.frontier_turn.specs.Snapshots.{snapshot_of};
+ghost use Rattle.split_frontier.specs.Callers.{IsOwn};
+ghost use Rattle.split_frontier.specs.Closing.{at_most, ClosesAs};
+ghost use Rattle.split_frontier.specs.Holding.{AreLeased};
+ghost use Rattle.split_frontier.specs.Opening.{IsFresh, IsOpening};
+ghost use Rattle.split_frontier.specs.Rule.{is_listed};
+ghost use Rattle.split_frontier.specs.Views.{newcomer, meets, meets_often, takes_turn, split_left, split_right, joined};
+
+use crate::parked::{Naming, Parked};
+use crate::pass::SplitPass;
+use crate::rule::{BOUND, Halve, Merge, Raise, Read, SearchRule, TURNS, TakeTurn};
+use crate::turn::SplitTurn;
+use crate::view::{Rest, View};
+use atomic_table::{Refused, Table};
+use bound_word::BoundWord;
+use box_search::{Frontier, Node, Space};
+use crossbeam_utils::sync::EventCount;
+use frontier_turn::Closed;
+use layout_limits::{MAX_WORKERS, OutOfMemory};
+use std::alloc::Global;
+use std::marker::{Model, PhantomData};
+use std::snapshot::Snapshot;
+use std::sync::Wait;
+
+/// A search that many callers share: a bound word, and shards, each with a frontier that one caller has at a time.
+#[derive(Drop)]
+pub struct Shards<'s, S: Space> {
+    table: Table<Option<Parked<S::Work>>, View, S, SearchRule<S>, Global>,
+    space: PhantomData<&'s S>,
+    /// Of each shard, that its turn was given back.
+    given: Vec<EventCount>,
+}
+
+impl<'s, S: Space> Model for Shards<'s, S> {
+    ghost use Rattle.std.specs.Prelude.{◌≡◌, vec_len};
+    ghost use Rattle.split_frontier.specs.Callers.{ShardsHome, IsSplitTable};
+
+    ghost Value = { ShardsHome };
+
+    ghost view = { λ shards. record {
+      table_id = shards.table.shared.table_id;
+      shards = vec_len shards.given;
+      problem = S.problem shards.table.shared.key;
+    } };
+
+    ghost invariant = { λ shards. IsSplitTable shards.table.shared.table_id (vec_len shards.given) };
+}
+
+/// A slot with a frontier that has the root open, or nothing.
+fn slot<W: Drop>(alloc: Global, root: Option<Node<W>>) -> Result<Option<Parked<W>>, OutOfMemory>
+    ensures fresh { IfOk result (IsFresh (option_to_list root)) }
+{
+    let frontier = Frontier::new(alloc, root)?;
+    let naming = Snapshot::of(&Naming::AsTaken);
+    Ok(Some(Parked { frontier, naming }))
+}
+
+/// The slots of the shards, of which the first has the root.
+fn slots<W: Drop>(
+    alloc: Global,
+    root: Option<Node<W>>,
+    shards: usize,
+) -> Result<Vec<Option<Parked<W>>>, OutOfMemory>
+    requires some { 1 ≤ shards }
+    ensures count { IfOk result (λ made. vec_len made ≡ shards) }
+    ensures opening { IfOk result (λ made. IsOpening root made.items) }
+{
+    let mut made = vec![in alloc; slot(alloc, root)?]?;
+    for _ in 1..shards {
+        made.push(slot(alloc, None)?)?;
+    }
+    Ok(made)
+}
+
+/// As many events as there are shards.
+fn events(alloc: Global, shards: usize) -> Result<Vec<EventCount>, OutOfMemory>
+    ensures count { IfOk result (λ made. vec_len made ≡ shards) }
+{
+    let mut made = Vec::with_capacity(alloc, shards)?;
+    for _ in 0..shards {
+        made.push(EventCount::new())?;
+    }
+    Ok(made)
+}
+
+impl<'s, S: Space> Shards<'s, S> {
+    /// A search with 1 to `MAX_WORKERS` shards that begins at a root in shard 0, or at none where no key is admitted, and
+    /// its first pass, which has all 2^64 parts. It takes all the memory of the table.
+    pub fn start(
+        alloc: Global,
+        space: &'s S,
+        root: Option<Node<S::Work>>,
+        shards: u32,
+    ) -> Result<(Shards<'s, S>, SplitPass<S>), OutOfMemory>
+        requires counts { (1 ≤ shards) × (shards ≤ MAX_WORKERS) }
+        requires root { let p = S.problem space.now in IsRootOf (S.admits p) (S.lies_in p) (S.fits p) root }
+        ensures problem { IfOk result (λ started. started.0.problem ≡ S.problem space.now) }
+        ensures shards { IfOk result (λ started. started.0.shards ≡ shards) }
+        ensures own { IfOk result (λ started. IsOwn started.0 started.1) }
+        ensures newcomer { IfOk result (λ started. started.1.view ≡ newcomer (S.problem space.now)) }
+    {
+        let count = shards as usize;
+        let words = vec![in alloc; 0; count + 1]?;
+        let given = events(alloc, count)?;
+        let slots = slots(alloc, root, count)?;
+        let (table, seat) = match Table::new(alloc, words.as_slice(), slots, space) {
+            Ok(made) => made,
+            Err(Refused { slots: _ }) => return Err(OutOfMemory),
+        };
+        let shards = Shards {
+            table,
+            space: PhantomData,
+            given,
+        };
+        Ok((shards, SplitPass { seat }))
+    }
+
+    /// Asks for the turn of a shard: one swap of its turn word and, where it wins, one exchange with its slot. `Err` comes
+    /// only where that swap found the turn held, by another pass, and hands the pass back. It does not wait.
+    pub fn try_enter<'a>(
+        &'a self,
+        pass: SplitPass<S>,
+        shard: u32,
+    ) -> Result<SplitTurn<'a, S>, SplitPass<S>>
+        requires own { IsOwn self.now pass }
+        requires there { shard < self.now.shards }
+        ensures turn_table { IfOk result (λ turn. turn.table_id ≡ pass.table_id) }
+        ensures turn_shard { IfOk result (λ turn. turn.shard ≡ shard) }
+        ensures turn_view { IfOk result (λ turn. turn.view ≡ takes_turn pass.view shard (snapshot_of turn.frontier)) }
+        ensures turn_leases { IfOk result (λ turn. turn.leases ≡ pass.view.rest.leases) }
+        ensures turn_leased { IfOk result (λ turn. AreLeased shard turn.leases turn.frontier) }
+        ensures pass_table { IfErr result (λ back. back.table_id ≡ pass.table_id) }
+        ensures met { IfErr result (λ back. back.view ≡ meets shard pass.view) }
+    {
+        let SplitPass { mut seat } = pass;
+        let place = shard as usize;
+        let table = &self.table.shared;
+        if table.swap::<TakeTurn<S>>(&mut seat, TURNS + place, 1) != 0 {
+            return Err(SplitPass { seat });
+        }
+        let parked = table.exchange(&mut seat, place, None).unwrap();
+        let Parked {
+            frontier,
+            naming: _,
+        } = parked;
+        Ok(SplitTurn {
+            table,
+            seat,
+            shard,
+            frontier,
+            naming: Naming::AsTaken,
+            given: &self.given[place],
+        })
+    }
+
+    /// Tries until it has the turn of the shard, and sleeps between tries until that turn is given back. It tries once
+    /// more when it has announced that it will wait, so that no turn is missed. It may wait; what it promises holds if it
+    /// returns.
+    pub fn enter<'a, R: Wait>(&'a self, rt: &R, pass: SplitPass<S>, shard: u32) -> SplitTurn<'a, S>
+        requires own { IsOwn self.now pass }
+        requires there { shard < self.now.shards }
+        ensures table { result.table_id ≡ pass.table_id }
+        ensures shard { result.shard ≡ shard }
+        ensures view { (times : ℕ)
+            × (result.view ≡ takes_turn (meets_often times shard pass.view) shard (snapshot_of result.frontier)) }
+        ensures leases { result.leases ≡ pass.view.rest.leases }
+        ensures leased { AreLeased shard result.leases result.frontier }
+    {
+        let given = &self.given[shard as usize];
+        let mut waiting = pass;
+        for _ in rt.forever() {
+            match self.try_enter(waiting, shard) {
+                Ok(turn) => return turn,
+                Err(back) => waiting = back,
+            }
+            let key = given.prepare_wait();
+            match self.try_enter(waiting, shard) {
+                Ok(turn) => return turn,
+                Err(back) => waiting = back,
+            }
+            key.wait(rt);
+        }
+        unreachable!()
+    }
+
+    /// Cuts a pass in two. The second pass has half of the parts, rounded down, has seen what the first has seen, and
+    /// names no lease. Neither holds a turn, and neither has empties. It takes no memory.
+    pub fn split(&self, pass: &mut SplitPass<S>) -> SplitPass<S>
+        requires own { IsOwn self.now pass.old }
+        requires parts { 2 ≤ pass.old.view.rest.parts }
+        ensures first_table { pass.new.table_id ≡ pass.old.table_id }
+        ensures first { pass.new.view ≡ split_left pass.old.view }
+        ensures second_table { result.table_id ≡ pass.old.table_id }
+        ensures second { result.view ≡ split_right pass.old.view }
+    {
+        let seat = self.table.shared.split_seat::<Halve>(&mut pass.seat);
+        SplitPass { seat }
+    }
+
+    /// Takes back a pass that names no lease. The pass that remains has the parts of both, has seen the greater of what
+    /// the two have seen, and has no empties. It takes no memory.
+    pub fn join(&self, pass: &mut SplitPass<S>, other: SplitPass<S>)
+        requires own { IsOwn self.now pass.old }
+        requires other { IsOwn self.now other }
+        requires unnamed { other.view.rest.leases ≡ [] }
+        ensures table { pass.new.table_id ≡ pass.old.table_id }
+        ensures view { pass.new.view ≡ joined pass.old.view other.view }
+    {
+        let SplitPass { seat } = other;
+        self.table.shared.join_seat::<Merge>(&mut pass.seat, seat);
+    }
+
+    /// Ends the search. The pass has all parts, so it is the last one. It answers the word, and how many nodes are open
+    /// and leased in the frontiers of all shards, as they are at that moment, at which the rule of the search holds. A
+    /// sum above the greatest u64 is given as this number. Where nothing is open and nothing is leased, the word is the
+    /// greatest admitted key, or 0 exactly where no key is admitted.
+    pub fn close(self, pass: SplitPass<S>) -> Closed
+        requires own { IsOwn self pass }
+        requires all { pass.view.rest.parts ≡ 2 ^ 64 }
+        ensures sound { IsSound (S.admits pass.view.rest.problem) result.word }
+        ensures rising { pass.view.seen ≤ result.word }
+        ensures moment { let p = pass.view.rest.problem in
+            ClosesAs p (S.admits p) (S.lies_in p) (S.fits p) pass.view self.entry.shards result }
+        ensures leased { result.leased ≡ at_most (length pass.view.rest.leases) }
+        ensures empties { ((shard : ℕ) → shard < self.entry.shards → is_listed pass.view.rest.empties shard ≡ true)
+            → (result.waiting ≡ 0) × (result.leased ≡ 0) }
+        ensures greatest { result.waiting ≡ 0 → result.leased ≡ 0 → IsGreatestKey (S.admits pass.view.rest.problem) result.word }
+    {
+        let Shards {
+            table,
+            space: _,
+            given,
+        } = self;
+        drop(given);
+        let SplitPass { seat } = pass;
+        let mut closed = table.close_with(seat);
+        let word = closed.word(BOUND);
+        let mut waiting: u64 = 0;
+        let mut leased: u64 = 0;
+        for shard in 0..closed.slot_count() {
+            let Parked {
+                frontier,
+                naming: _,
+            } = closed.take(shard).unwrap();
+            waiting = waiting.saturating_add(frontier.waiting());
+            leased = leased.saturating_add(frontier.out());
+        }
+        closed.free();
+        Closed {
+            word,
+            waiting,
+            leased,
+        }
+    }
+}
+
+impl<'s, S: Space> BoundWord for Shards<'s, S> {
+    type Pass = SplitPass<S>;
+
+    type Rest = Rest;
+
+    ghost admits = { λ shards. S.admits shards.problem };
+
+    ghost is_own = { IsOwn };
+
+    ghost seen = { λ pass. pass.view.seen };
+
+    ghost asked = { λ pass. pass.view.asked };
+
+    ghost last = { λ pass. pass.view.last };
+
+    ghost rest = { λ pass. pass.view.rest };
+
+    fn raise(&self, pass: &mut SplitPass<S>, key: u64) -> u64 {
+        let table = &self.table.shared;
+        table.fetch_max::<Raise<S>>(&mut pass.seat, BOUND, key)
+    }
+
+    fn read(&self, pass: &mut SplitPass<S>) -> u64 {
+        let table = &self.table.shared;
+        table.load::<Read<S>>(&mut pass.seat, BOUND)
+    }
+}
