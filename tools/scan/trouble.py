@@ -1,6 +1,8 @@
 """What went wrong with a page, in a person's words, and what helps."""
 
+import os
 import re
+import sys
 
 HELP = {
     3: "make the page again",
@@ -26,3 +28,19 @@ def advice(status, line):
     helps = HELP.get(status)
     told = line or words_of_status(status)
     return f"{told}; {helps}" if helps else told
+
+
+def ended(name, main, words):
+    """The status of a run, with all that it told written; a run that is broken off, or cannot write, says so in a line."""
+    try:
+        status = main(words)
+        sys.stdout.flush()
+        return status
+    except KeyboardInterrupt:
+        print(f"\n{name}: broken off", file=sys.stderr)
+        return 130
+    except OSError as fault:
+        print(f"{name}: {fault.filename or 'standard output'}: {fault.strerror}", file=sys.stderr)
+        # What is left for standard output cannot be written either.
+        os.dup2(os.open(os.devnull, os.O_WRONLY), sys.stdout.fileno())
+        return 1
