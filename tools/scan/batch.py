@@ -109,7 +109,7 @@ class Batch:
 
     def work(self, pages):
         """All pages: each prepared and laid out by a thread, or all prepared and then laid out on several machines."""
-        one = self.prepare if self.plan.sshlogin else self.whole
+        one = self.ready if self.plan.sshlogin else self.whole
         ready = []
         with bar(len(pages), self.plan.quiet) as progress, ThreadPoolExecutor(self.plan.jobs) as pool:
             futures = {pool.submit(self.timed, one, page): page for page in pages}
@@ -128,27 +128,34 @@ class Batch:
 
     def timed(self, one, page):
         """One page: true where it went well."""
-        began = time.monotonic()
+        if self.stopped.is_set():
+            return False
         try:
-            if self.stopped.is_set():
-                return False
-            note = one(page)
+            one(page, time.monotonic())
         except Trouble as fault:
             self.fail(page.source, str(fault), page.name)
             return False
         except OSError as fault:
             self.fail(page.source, f"{fault.filename or page.path}: {fault.strerror}", page.name)
             return False
-        with self.lock:
-            if not self.plan.sshlogin:
-                self.done += 1
-            self.log.add(page.name, identity(page.source), f"{time.monotonic() - began:.2f}", note)
         return True
 
-    def whole(self, page):
-        note = self.prepare(page)
-        self.lay_out(page)
-        return note
+    def whole(self, page, began):
+        """Prepares a page and lays it out. The log knows the page before its document is there: a document that it does not know is another's."""
+        done = self.prepare(page)
+        document = self.laid_out(page)
+        self.note(page, began, done)
+        write_whole(page.file("hocr"), document)
+        with self.lock:
+            self.done += 1
+
+    def ready(self, page, began):
+        """Prepares a page that other machines lay out."""
+        self.note(page, began, self.prepare(page))
+
+    def note(self, page, began, words):
+        with self.lock:
+            self.log.add(page.name, identity(page.source), f"{time.monotonic() - began:.2f}", words)
 
     def prepare(self, page):
         """Makes the page's PBM, and answers what was done to it."""
@@ -172,13 +179,13 @@ class Batch:
     def options(self):
         return [] if self.plan.rects is None else ["--rects", str(self.plan.rects)]
 
-    def lay_out(self, page):
-        """Writes the page's document; raises Trouble."""
+    def laid_out(self, page):
+        """The page's document; raises Trouble."""
         with open(page.file("pbm"), "rb") as file:
             status, out, err = self.child([self.program, *self.options()], file)
         if status != 0:
             raise Trouble(advice(status, err.decode(errors="replace").strip()))
-        write_whole(page.file("hocr"), out)
+        return out
 
     def child(self, words, stdin=subprocess.DEVNULL):
         """What a program of ours answers: its status and both its streams. It is ended with this run."""
@@ -255,12 +262,16 @@ class Log:
                 self.names[rest.partition("\t")[0]] = name
                 self.taken.add(name)
 
+    def is_free(self, name):
+        """Neither is it another page's, nor the name of a document that some other program left here."""
+        return name not in self.taken and not os.path.exists(os.path.join(os.path.dirname(self.file), name + ".hocr"))
+
     def name_for(self, source):
-        """The name that the page has, or one that no other page has: its file's, with a number where that is taken."""
+        """The name that the page has, or one that is free: its file's, with a number where that is taken."""
         known = identity(source)
         if known not in self.names:
             stem = name = source.stem()
-            while name in self.taken:
+            while not self.is_free(name):
                 self.last[stem] = self.last.get(stem, 1) + 1
                 name = f"{stem}.{self.last[stem]}"
             self.names[known] = name
