@@ -138,7 +138,7 @@ def page_by_rule(work, digest, path):
 
 
 def choose(work):
-    """The rows of the list by the rule: one page a folder and few a package, until there are so many of one column and so many of columns."""
+    """The rows of the list by the rule: one page a folder and few a package, until there are as many of each kind as are wanted."""
     versions = {name.split("_")[0]: name.split("_")[1].replace("%3a", ":") for name in os.listdir(os.path.join(work, "deb"))}
     left, folders, full, rows = dict(WANTED), set(), {}, []
     for digest, path in candidates(work):

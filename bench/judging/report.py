@@ -87,9 +87,13 @@ def worst_table(of):
     """The pages on which tools/pages is worst."""
     tesseract = {row["page"]: row for row in of["tesseract"]}
     ranked = sorted(of["tools/pages"], key=lambda row: f1([row])[2])[:WORST]
-    heads = ["page", "class", "F1", "tesseract's", "true", "hit", "found", "merged", "split", "of nothing"]
     names = ("true", "hit", "found", "merged", "split", "nothing")
-    return table(heads, [[r["page"], r["class"], told(f1([r])[2]), told(f1([tesseract[r["page"]]])[2]), *(r[n] for n in names)] for r in ranked])
+
+    def cells(row):
+        own, others = (told(f1([one])[2]) for one in (row, tesseract[row["page"]]))
+        return [row["page"], row["class"], own, others, *(row[name] for name in names)]
+
+    return table(["page", "class", "F1", "tesseract's", "true", "hit", "found", "merged", "split", "of nothing"], map(cells, ranked))
 
 
 def text_table(rows):
@@ -142,7 +146,8 @@ def tables(of):
     yield from table(LINE_HEADS, [line_cells(name, of[name]) for name in there])
     yield from class_table(of)
     ours = [name for name in of if name not in PROGRAMS[2:]]
-    yield from table(["", "gutters found", "others on these pages", "pages of one column with one"], [gutter_cells(name, of[name]) for name in ours])
+    heads = ["", "gutters found", "others on these pages", "pages of one column with one"]
+    yield from table(heads, [gutter_cells(name, of[name]) for name in ours])
     yield from table(LINE_HEADS, [line_cells(name, of[name]) for name in ours])
     yield from worst_table(of)
 

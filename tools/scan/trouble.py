@@ -21,10 +21,12 @@ def advice(status, line):
     """What layout1's line on standard error means, and what to do."""
     many = re.fullmatch(r"limit: (\d+) components", line)
     if many:
-        return f"{int(many.group(1)):,} marks are over the limit of 60,000: it is full of grain or of a photograph; prepare it with all steps, or scan it at fewer dots per inch"
+        marks = f"{int(many.group(1)):,} marks are over the limit of 60,000: it is full of grain or of a photograph"
+        return f"{marks}; prepare it with all steps, or scan it at fewer dots per inch"
     size = re.fullmatch(r"limit: size (\d+) by (\d+)", line)
     if size:
-        return f"{int(size.group(1)):,} by {int(size.group(2)):,} pixels are over the limit of 8,192 a side and 33,554,432 in all: scan it at fewer dots per inch"
+        sides = f"{int(size.group(1)):,} by {int(size.group(2)):,} pixels"
+        return f"{sides} are over the limit of 8,192 a side and 33,554,432 in all: scan it at fewer dots per inch"
     helps = HELP.get(status)
     told = line or words_of_status(status)
     return f"{told}; {helps}" if helps else told
