@@ -81,11 +81,17 @@ def lines_measured(truth, layout):
         met = [line for line in judged if meets(box, line)]
         stacked += any(not same_rows(a, b) for a in met for b in met)
         across += any(a[2] <= (g[0] + g[1]) / 2 <= b[0] for a in met for b in met if a is not b and same_rows(a, b) for g in truth.gutters)
+    missed = [line for number, line in enumerate(judged) if number not in of_true]
+    joined = sum(any(meets(box, line) for box in found) for line in missed)
+    unseen = sum(not any(meets(box, line) or inside(box, line) for box in found) for line in missed)
     return {
         "true": len(judged),
         "found": len(found) - ignored,
         "hit": len(of_true),
         "strict": len(matched(found, judged, both)),
+        "joined": joined,
+        "cut": len(missed) - joined - unseen,
+        "unseen": unseen,
         "merged": stacked,
         "across": across,
         "split": sum(sum(inside(box, line) for box in found) >= 2 for line in judged),

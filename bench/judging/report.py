@@ -60,6 +60,11 @@ LINE_HEADS = (
 )  # fmt: skip
 
 
+def fate_cells(name, rows):
+    """What becomes of 100 true lines."""
+    return [name, *(f"{100 * total(rows, key) / total(rows, 'true'):.1f}" for key in ("hit", "joined", "cut", "unseen"))]
+
+
 def gutter_cells(name, rows):
     return [
         name,
@@ -146,6 +151,8 @@ def tables(of):
     yield from table(LINE_HEADS, [line_cells(name, of[name]) for name in there])
     yield from class_table(of)
     ours = [name for name in of if name not in PROGRAMS[2:]]
+    heads = ["of 100 true lines", "hit", "joined to another that is hit", "cut into pieces", "not found"]
+    yield from table(heads, [fate_cells(name, of[name]) for name in there])
     heads = ["", "gutters found", "others on these pages", "pages of one column with one"]
     yield from table(heads, [gutter_cells(name, of[name]) for name in ours])
     yield from table(LINE_HEADS, [line_cells(name, of[name]) for name in ours])
