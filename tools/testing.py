@@ -11,11 +11,15 @@ import traceback
 
 TOOLS = os.path.dirname(os.path.realpath(__file__))
 TOP = os.path.dirname(TOOLS)
-LAYOUT1 = os.path.join(TOP, "crates", "layout1", "out", "layout1")
 PACKAGES = {name: f"python3-{name.lower()}" for name in ("lxml", "PIL", "jinja2", "cairosvg", "numpy")}
 SMALL_DISK = ("unshare", "--map-root-user", "--mount")  # a view of the file system in which a small one may be mounted
 VIEW, PREPARE, PAGES, TO, OCR = (os.path.join(TOOLS, name) for name in ("view", "prepare", "pages", "to", "ocr"))
 CASES = []
+
+
+def built(name):
+    """Where rt leaves a program of the repository."""
+    return os.path.join(TOP, "crates", name, "out", name)
 
 
 def case(*needs):
@@ -32,8 +36,8 @@ def missing(need):
     """Why the need is not met, or None."""
     if need in PACKAGES:
         return None if importlib.util.find_spec(need) else f"{PACKAGES[need]} is not installed"
-    if need == "layout1":
-        return None if os.access(LAYOUT1, os.X_OK) else "layout1 is not built"
+    if need in ("layout1", "layout"):
+        return None if os.access(built(need), os.X_OK) else f"{need} is not built"
     if need == "chromium":
         return None if shutil.which(need) and opens() else "no chromium that starts"
     if need == "leptonica":
@@ -104,7 +108,7 @@ def page_of_lines(count=12, size=(1240, 1754), letters=30):
 
 def build():
     """Builds layout1 where it is missing and rt is there, as the demo does."""
-    if not os.access(LAYOUT1, os.X_OK) and shutil.which("rt"):
+    if not os.access(built("layout1"), os.X_OK) and shutil.which("rt"):
         folder = os.path.join(TOP, "crates", "layout1")
         with open(os.path.join(folder, "stdin"), "rb") as given:
             subprocess.run(["rt", "run"], cwd=folder, stdin=given, capture_output=True, check=False)
@@ -117,12 +121,13 @@ def main(words, told):
         return 2
     if words:
         build()
-    passed = failed = 0
+    passed = failed = skipped = 0
     reasons = {need: missing(need) for need in dict.fromkeys(need for _, needs in CASES for need in needs)}
     for function, needs in CASES:
         name = "tools: " + function.__name__.replace("_", " ")
         reason = next((reasons[need] for need in needs if reasons[need]), None)
         if reason:
+            skipped += 1
             print(f"{name}: skipped, {reason}", flush=True)
             continue
         try:
@@ -133,5 +138,5 @@ def main(words, told):
         except (AssertionError, OSError, subprocess.SubprocessError, KeyError, ValueError) as fault:
             failed += 1
             print(f"{name}: FAILED: {str(fault) or traceback.extract_tb(fault.__traceback__)[-1].line}", flush=True)
-    print(f"{passed} passed, {failed} failed")
+    print(f"{passed} passed, {failed} failed" + (f", {skipped} skipped" if skipped else ""))
     return 0 if failed == 0 else 1
