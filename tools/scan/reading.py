@@ -45,7 +45,7 @@ class Area:
 
 @dataclass
 class Sheet:
-    """A page: its number, its size in pixels, and its areas in reading order, or by numbers where the rules of order contradict one another."""
+    """A page: its number, its size in pixels, and its areas in reading order, or by numbers where there is none."""
 
     number: int
     width: int
