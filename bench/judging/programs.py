@@ -1,11 +1,13 @@
 """The programs that are judged, each on one page, with their lines on the page at 300 dots per inch."""
 
 import ctypes
+import hashlib
 import os
 import re
 import subprocess
 import sys
 from dataclasses import dataclass
+from functools import cache
 
 TOP = os.path.dirname(os.path.dirname(os.path.dirname(os.path.realpath(__file__))))
 sys.path.insert(0, os.path.join(TOP, "tools"))
@@ -28,10 +30,27 @@ class Failed(Exception):
 
 @dataclass(frozen=True)
 class Condition:
-    """A way to find the lines of a page: its name in the tables, and the call."""
+    """A way to find the lines of a page: its name in the tables, the call, and by which files it finds other lines when they change."""
 
     name: str
     call: object
+    mark: str = ""
+
+    @property
+    def folder(self):
+        """The name of the folder in which its answers are kept."""
+        return self.name.replace("/", "-") + (f"@{self.mark}" if self.mark else "")
+
+
+@cache
+def mark_of(program):
+    """Twelve digits that change where layout1 or what prepares its pages does."""
+    digest = hashlib.sha256()
+    preparing = os.path.join(TOP, "tools", "scan")
+    for file in (program, *(os.path.join(preparing, name) for name in ("leptonica.py", "preparing.py", "transform.py"))):
+        with open(file, "rb") as opened:
+            digest.update(opened.read())
+    return digest.hexdigest()[:12]
 
 
 def layout_of(document, transform=None):
@@ -57,7 +76,7 @@ def plain(program, resolution):
         scale = RESOLUTION / resolution
         return layout1(program, content, Transform(*page.size, a=scale, e=scale))
 
-    return Condition(f"layout1, {resolution} dots per inch", call)
+    return Condition(f"layout1, {resolution} dots per inch", call, mark_of(program))
 
 
 def through_pages(program, name, steps=STEPS, rects=None):
@@ -68,7 +87,7 @@ def through_pages(program, name, steps=STEPS, rects=None):
             made = prepared(Picture.read(file.read()), SET_AT, steps)
         return layout1(program, made.pbm(), made.transform, rects)
 
-    return Condition(name, call)
+    return Condition(name, call, mark_of(program))
 
 
 def tesseract(page):

@@ -8,7 +8,7 @@ from collections import Counter
 
 import numpy as np
 
-from .programs import TOP
+from .programs import TOP, mark_of
 
 LATIN = 0.98  # the share of letters in ASCII from which on a page is judged, since tesseract reads it as English
 
@@ -34,7 +34,7 @@ def distance(first, second):
 
 def by_tools_ocr(program, page):
     """The text that tools/ocr writes."""
-    folder = os.path.join(page.work, "text", "ocr")
+    folder = os.path.join(page.work, "text", f"ocr@{mark_of(program)}")
     file = os.path.join(folder, page.name + ".txt")
     if not os.path.exists(file):
         words = [os.path.join(TOP, "tools", "ocr"), "--no-pdf", "--layout1", program, "-o", folder, page.alone()]
