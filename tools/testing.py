@@ -3,6 +3,7 @@
 import ctypes.util
 import importlib.util
 import os
+import re
 import shutil
 import subprocess
 import sys
@@ -51,10 +52,10 @@ def missing(need):
 
 
 def run(*words, given=None, status=0):
-    """The run of a command in an empty folder of its own; its standard output, or its standard error where the status is no 0."""
+    """The run of a command; its standard output, or where the status is no 0 its standard error without what it says when it takes long."""
     done = subprocess.run(words, input=given, capture_output=True, timeout=170, check=False)
     assert done.returncode == status, f"{words[0]} ended with {done.returncode}, wanted {status}: {done.stderr.decode()[-300:]}"
-    return (done.stdout if status == 0 else done.stderr).decode()
+    return done.stdout.decode() if status == 0 else re.sub(r"^\w+: .* \.\.\n", "", done.stderr.decode(), flags=re.MULTILINE)
 
 
 def chromium(folder, *words):
