@@ -141,7 +141,7 @@ class Batch:
         return True
 
     def whole(self, page, began):
-        """Prepares a page and lays it out. The log knows the page before its document is there, since one that it does not know is another's."""
+        """Prepares a page and lays it out. The log knows it before its document is there: one that it does not know is another's."""
         done = self.prepare(page)
         document = self.laid_out(page)
         self.note(page, began, done)
