@@ -1,19 +1,22 @@
 """Many pages: each is prepared and laid out, those that are done are passed over, and one that fails stops no other."""
 
 import os
+import re
 import shutil
 import subprocess
 import sys
 import threading
 import time
 from concurrent.futures import ThreadPoolExecutor, as_completed
-from dataclasses import dataclass
+from dataclasses import dataclass, replace
 
 from .files import write_whole
 from .inputs import Trouble, files_in, sources_of
 from .leptonica import NoLibrary
 from .trouble import advice, words_of_status
 
+MOST_TOLD = 100  # pages that the list at the end names
+PLAIN = re.compile(r"[\t\r\n]")  # what a cell of the log has not
 TOOLS = os.path.dirname(os.path.dirname(os.path.realpath(__file__)))
 BUILT = os.path.join(os.path.dirname(TOOLS), "crates", "layout1", "out", "layout1")
 
@@ -34,6 +37,10 @@ class Page:
 
     source: object
     path: str
+
+    @property
+    def name(self):
+        return os.path.basename(self.path)
 
     def file(self, ending):
         return f"{self.path}.{ending}"
@@ -57,36 +64,35 @@ class Batch:
         self.stopped = threading.Event()
         self.children = set()
         self.lock = threading.Lock()
+        self.log = Log(os.path.join(plan.output, "log.tsv"))
 
     def run(self):
         """Does it, and answers the exit status."""
-        plan = self.plan
         try:
-            self.program = find_program(plan.layout1)
-            os.makedirs(plan.output, exist_ok=True)
-            pages = self.find_pages()
-            self.log = open(os.path.join(plan.output, "log.tsv"), "a", encoding="utf-8", buffering=1)
+            self.program = find_program(self.plan.layout1)
+            os.makedirs(self.plan.output, exist_ok=True)
+            self.log.open()
+            self.work(self.find_pages())
         except (Trouble, NoLibrary) as fault:
             print(f"pages: {fault}", file=sys.stderr)
             return 1
         except OSError as fault:
             print(f"pages: {fault.filename}: {fault.strerror}", file=sys.stderr)
             return 1
-        with self.log:
-            try:
-                self.work(pages)
-            except KeyboardInterrupt:
-                self.stop()
-                print(f"\npages: broken off; {self.done} page(s) were laid out: the same words go on from there", file=sys.stderr)
-                return 130
+        except KeyboardInterrupt:
+            self.stop()
+            print(f"\npages: broken off; {self.done} page(s) were laid out: the same words go on from there", file=sys.stderr)
+            return 130
+        finally:
+            self.log.close()
         return self.tell()
 
     def find_pages(self):
         """The pages of all inputs that are still to be done."""
-        files, missing = files_in(self.plan.inputs)
-        for name in missing:
-            self.fail(name, "it is not there")
-        pages, taken = [], set()
+        files, wrong = files_in(self.plan.inputs)
+        for name, reason in wrong:
+            self.fail(name, reason)
+        pages = []
         for file in files:
             try:
                 sources = sources_of(file)
@@ -94,7 +100,7 @@ class Batch:
                 self.fail(file, str(fault))
                 continue
             for source in sources:
-                page = Page(source, os.path.join(self.plan.output, unused(source.stem(), taken)))
+                page = Page(source, os.path.join(self.plan.output, self.log.name_for(source)))
                 if page.is_done():
                     self.passed += 1
                 else:
@@ -103,7 +109,7 @@ class Batch:
 
     def work(self, pages):
         """All pages: each prepared and laid out by a thread, or all prepared and then laid out on several machines."""
-        one = self.prepare if self.plan.sshlogin else self.whole
+        one = self.ready if self.plan.sshlogin else self.whole
         ready = []
         with bar(len(pages), self.plan.quiet) as progress, ThreadPoolExecutor(self.plan.jobs) as pool:
             futures = {pool.submit(self.timed, one, page): page for page in pages}
@@ -122,26 +128,34 @@ class Batch:
 
     def timed(self, one, page):
         """One page: true where it went well."""
-        began = time.monotonic()
+        if self.stopped.is_set():
+            return False
         try:
-            if self.stopped.is_set():
-                return False
-            note = one(page)
+            one(page, time.monotonic())
         except Trouble as fault:
-            self.fail(str(page.source), str(fault), time.monotonic() - began)
+            self.fail(page.source, str(fault), page.name)
             return False
         except OSError as fault:
-            self.fail(str(page.source), f"{fault.filename or page.path}: {fault.strerror}", time.monotonic() - began)
+            self.fail(page.source, f"{fault.filename or page.path}: {fault.strerror}", page.name)
             return False
-        if not self.plan.sshlogin:
-            self.done += 1
-        self.note(page.source, time.monotonic() - began, note)
         return True
 
-    def whole(self, page):
-        note = self.prepare(page)
-        self.lay_out(page)
-        return note
+    def whole(self, page, began):
+        """Prepares a page and lays it out. The log knows it before its document is there: one that it does not know is another's."""
+        done = self.prepare(page)
+        document = self.laid_out(page)
+        self.note(page, began, done)
+        write_whole(page.file("hocr"), document)
+        with self.lock:
+            self.done += 1
+
+    def ready(self, page, began):
+        """Prepares a page that other machines lay out."""
+        self.note(page, began, self.prepare(page))
+
+    def note(self, page, began, words):
+        with self.lock:
+            self.log.add(page.name, identity(page.source), f"{time.monotonic() - began:.2f}", words)
 
     def prepare(self, page):
         """Makes the page's PBM, and answers what was done to it."""
@@ -165,13 +179,13 @@ class Batch:
     def options(self):
         return [] if self.plan.rects is None else ["--rects", str(self.plan.rects)]
 
-    def lay_out(self, page):
-        """Writes the page's document; raises Trouble."""
+    def laid_out(self, page):
+        """The page's document; raises Trouble."""
         with open(page.file("pbm"), "rb") as file:
             status, out, err = self.child([self.program, *self.options()], file)
         if status != 0:
             raise Trouble(advice(status, err.decode(errors="replace").strip()))
-        write_whole(page.file("hocr"), out)
+        return out
 
     def child(self, words, stdin=subprocess.DEVNULL):
         """What a program of ours answers: its status and both its streams. It is ended with this run."""
@@ -203,35 +217,80 @@ class Batch:
             if page.is_done():
                 self.done += 1
             else:
-                self.fail(str(page.source), "no machine made its document")
+                self.fail(page.source, "no machine made its document", page.name)
 
-    def note(self, source, seconds, words):
+    def fail(self, source, words, name=""):
         with self.lock:
-            self.log.write(f"{source}\t{seconds:.2f}\t{words}\n")
-
-    def fail(self, name, words, seconds=0.0):
-        with self.lock:
-            self.failed.append((name, words))
-            if hasattr(self, "log"):
-                self.log.write(f"{name}\t{seconds:.2f}\tno document: {words}\n")
+            self.failed.append((str(source), words))
+            self.log.add(name, identity(source) if name else source, "", f"no document: {words}")
 
     def tell(self):
         """The list at the end."""
         passed = f", {self.passed} were there already" if self.passed else ""
         stream = sys.stderr if self.failed else sys.stdout
         print(f"pages: {self.done} laid out{passed}, {len(self.failed)} without a document", file=stream)
-        for name, words in sorted(self.failed):
+        for name, words in sorted(self.failed)[:MOST_TOLD]:
             print(f"  {name}: {words}", file=stream)
-        return 1 if self.failed else 0
+        if len(self.failed) > MOST_TOLD:
+            print(f"  and {len(self.failed) - MOST_TOLD:,} more: see {self.log.file}", file=stream)
+        if self.log.fault:
+            print(f"pages: {self.log.file} is not whole: {self.log.fault}", file=sys.stderr)
+        return 1 if self.failed or self.log.fault else 0
 
 
-def unused(stem, taken):
-    """The stem, or where another page has that name already one with a number behind it."""
-    name, number = stem, 2
-    while name in taken:
-        name, number = f"{stem}.{number}", number + 1
-    taken.add(name)
-    return name
+def identity(source):
+    """A page as the log knows it: by its file from the root on, so that the page of another folder is another one."""
+    return PLAIN.sub(lambda found: f"\\x{ord(found[0]):02x}", str(replace(source, file=os.path.abspath(source.file))))
+
+
+class Log:
+    """A line for each page: its name, what it is of, seconds, and what was done or is wrong. Later runs find the page's name in it."""
+
+    def __init__(self, file):
+        self.file = file
+        self.fault = ""
+        self.names, self.taken, self.last = {}, set(), {}
+        self.opened = None
+
+    def open(self):
+        """Reads what earlier runs left; raises OSError."""
+        self.opened = open(self.file, "a+", encoding="utf-8", errors="surrogateescape", buffering=1, newline="\n")
+        self.opened.seek(0)
+        for line in self.opened:
+            name, _, rest = line.partition("\t")
+            if name and rest.count("\t") >= 2:
+                self.names[rest.partition("\t")[0]] = name
+                self.taken.add(name)
+
+    def is_free(self, name):
+        """Neither is it another page's, nor the name of a document that some other program left here."""
+        return name not in self.taken and not os.path.exists(os.path.join(os.path.dirname(self.file), name + ".hocr"))
+
+    def name_for(self, source):
+        """The name that the page has, or one that is free: its file's, with a number where that is taken."""
+        known = identity(source)
+        if known not in self.names:
+            stem = name = source.stem()
+            while not self.is_free(name):
+                self.last[stem] = self.last.get(stem, 1) + 1
+                name = f"{stem}.{self.last[stem]}"
+            self.names[known] = name
+            self.taken.add(name)
+        return self.names[known]
+
+    def add(self, *cells):
+        """One more line; that the disk is full is told at the end."""
+        try:
+            self.opened.write("\t".join(PLAIN.sub(" ", cell) for cell in cells) + "\n")
+        except OSError as fault:
+            self.fault = fault.strerror
+
+    def close(self):
+        try:
+            if self.opened:
+                self.opened.close()
+        except OSError as fault:
+            self.fault = fault.strerror
 
 
 def bar(count, quiet):

@@ -60,6 +60,8 @@ def as_json(sheets, picture):
 
     def line_of(line):
         told = {"id": line.id, "bbox": sides(line.box), "baseline": [list(end) for end in line.baseline] if line.baseline else None}
+        if line.depth:
+            told["depth"] = round(line.depth, 1)
         if line.words:
             told["words"] = [{"bbox": sides(word.box), "text": word.text, "confidence": word.sure} for word in line.words]
         return told

@@ -44,11 +44,11 @@ def run(words):
     return done.stdout
 
 
-def content_of(file):
-    """The bytes of a file; raises Trouble."""
+def content_of(file, most=-1):
+    """The bytes of a file, or so many of the first; raises Trouble."""
     try:
         with open(file, "rb") as opened:
-            return opened.read()
+            return opened.read(most)
     except OSError as fault:
         raise Trouble(f"it cannot be read: {fault.strerror}") from fault
 
@@ -70,13 +70,13 @@ def pages_of_pdf(file):
 
 def sources_of(file):
     """The pages of one file; raises Trouble where it cannot be read."""
-    content = content_of(file)
-    if not content:
+    head = content_of(file, 1024)
+    if not head:
         raise Trouble("it is empty")
-    if is_pdf(content):
+    if is_pdf(head):
         count = pages_of_pdf(file)
-    elif is_tiff(content):
-        count = 0
+    elif is_tiff(head):
+        count, content = 0, content_of(file)
         while Picture.read_tiff_page(content, count):
             count += 1
         if count == 0:
@@ -109,14 +109,18 @@ def read_picture(content):
 
 
 def files_in(names):
-    """The files that the words name, those of folders with an ending that a page has, sorted; and names that are nothing."""
-    files, missing = [], []
+    """The files that the words name, those of folders with an ending that a page has, sorted; and what is wrong with other names."""
+    files, wrong = [], []
+
+    def closed(fault):
+        wrong.append((fault.filename, f"the folder cannot be read: {fault.strerror}"))
+
     for name in names:
         if os.path.isdir(name):
-            for folder, _, inside in sorted(os.walk(name)):
+            for folder, _, inside in sorted(os.walk(name, onerror=closed)):
                 files += [os.path.join(folder, file) for file in sorted(inside) if file.lower().endswith(NAMES)]
-        elif os.path.exists(name):
+        elif os.path.lexists(name):
             files.append(name)
         else:
-            missing.append(name)
-    return list(dict.fromkeys(files)), missing
+            wrong.append((name, "it is not there"))
+    return list(dict.fromkeys(files)), wrong

@@ -9,11 +9,11 @@ from .transform import Transform
 TARGET = 150  # dots per inch at which the lines of print are found best
 LEAST_SKEW = 1.0  # degrees; below this turning a page tears more lines than it mends
 LEAST_SURE = 3.0  # leptonica's measure of how sure a skew is
-LEVEL = 128  # a grey pixel below this is black where paper is white
+LEVEL = 170  # a grey pixel below this is black where paper is white: a stroke of one pixel at 300 dots per inch is 128 or so at 150
 PAPER = 250  # a grey pixel from this on is pure white
 DIGITAL = 0.5  # the least share of pure white pixels of a page that was set, and not scanned
 WINDOW, FACTOR = 20, 0.35  # Sauvola's threshold at the target resolution
-MOST_DOT = 9  # pixels of a mark at the target resolution: leaders, specks, and the dots of i and j
+MOST_DOT = 9  # pixels of a mark at the target resolution: grain, leaders, and the dots of i and j
 RULE_LENGTH, RULE_WIDTH = 60, 5  # pixels at the target resolution: a line at least this long and at most this wide is a rule
 STEPS = ("margins", "screens", "rules", "dots", "deskew")
 
@@ -95,10 +95,12 @@ def without_rules(picture, done):
 
 
 def without_dots(picture, done):
-    """The page without marks of a few pixels, as dot leaders and grain."""
+    """The page without marks of a few pixels where they are more than all others, as grain is, so that the usual mark would be no letter.
+    Where they are fewer they stay: a row of dots belongs to its line."""
     kept = picture.without_small(MOST_DOT)
-    if kept.black < picture.black:
-        done.append("dots taken out")
+    if 2 * kept.count() >= picture.count():
+        return picture
+    done.append("dots taken out")
     return kept
 
 

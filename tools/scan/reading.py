@@ -21,12 +21,13 @@ class Word:
 
 @dataclass
 class Line:
-    """A line's box, both ends (x, y) of its baseline where it tells one, and its words."""
+    """A line's box, both ends (x, y) of its baseline where it tells one, its words, and how far below the baseline its descenders end."""
 
     id: str
     box: Box
     baseline: tuple | None
     words: list = field(default_factory=list)
+    depth: float = 0
 
     @property
     def text(self):
@@ -44,7 +45,7 @@ class Area:
 
 @dataclass
 class Sheet:
-    """A page: its number, its size in pixels, and its areas in reading order, or by numbers where two rules of order contradict one another."""
+    """A page: its number, its size in pixels, and its areas in reading order, or by numbers where there is none."""
 
     number: int
     width: int
@@ -71,6 +72,11 @@ def baseline_of(element, transform):
     return tuple(transform.at(*end) for end in ends)
 
 
+def depth_of(element, transform):
+    """The depth of a line's descenders, in pixels of the page that came in."""
+    return element.depth() if transform is None else element.depth() * transform.e
+
+
 def sheet_of(page, transform=None):
     """The page of a document; with a transform on the page that came in."""
     areas, whites, gutters, known = [], [], [], {}
@@ -80,7 +86,7 @@ def sheet_of(page, transform=None):
             known[element.id] = Area(element.id, box)
             areas.append(known[element.id])
         elif element.hocr_class in LINE_CLASSES:
-            line = Line(element.id, box, baseline_of(element, transform))
+            line = Line(element.id, box, baseline_of(element, transform), depth=depth_of(element, transform))
             if element.area not in known:
                 areas.append(Area(f"area-of-{element.id}", box, [line]))
             else:

@@ -1,6 +1,7 @@
 """The text of a page: tesseract reads the areas of the layout, and its words are put into the layout's lines."""
 
 import os
+import re
 import subprocess
 
 from .forms import written
@@ -25,7 +26,12 @@ def tesseract(picture, stem, language):
     except FileNotFoundError as fault:
         raise Trouble("tesseract is not there: tools/setup installs it") from fault
     if done.returncode != 0:
-        raise Trouble("tesseract: " + (done.stderr.decode(errors="replace").strip().splitlines() or ["it failed"])[-1])
+        said = done.stderr.decode(errors="replace").strip()
+        strange = re.search(r"Failed loading language '(\w+)'", said)
+        if strange:
+            package = "tesseract-ocr-" + strange[1].replace("_", "-")
+            raise Trouble(f"tesseract has no language {strange[1]}: Debian's package {package} brings it")
+        raise Trouble("tesseract: " + (said.splitlines() or ["it failed"])[-1])
     with open(stem + ".hocr", "rb") as file:
         return file.read()
 

@@ -1,6 +1,8 @@
 """What went wrong with a page, in a person's words, and what helps."""
 
+import os
 import re
+import sys
 
 HELP = {
     3: "make the page again",
@@ -19,10 +21,28 @@ def advice(status, line):
     """What layout1's line on standard error means, and what to do."""
     many = re.fullmatch(r"limit: (\d+) components", line)
     if many:
-        return f"{int(many.group(1)):,} marks are over the limit of 60,000: it is full of grain or of a photograph; prepare it with all steps, or scan it at fewer dots per inch"
+        marks = f"{int(many.group(1)):,} marks are over the limit of 60,000: it is full of grain or of a photograph"
+        return f"{marks}; prepare it with all steps, or scan it at fewer dots per inch"
     size = re.fullmatch(r"limit: size (\d+) by (\d+)", line)
     if size:
-        return f"{int(size.group(1)):,} by {int(size.group(2)):,} pixels are over the limit of 8,192 a side and 33,554,432 in all: scan it at fewer dots per inch"
+        sides = f"{int(size.group(1)):,} by {int(size.group(2)):,} pixels"
+        return f"{sides} are over the limit of 8,192 a side and 33,554,432 in all: scan it at fewer dots per inch"
     helps = HELP.get(status)
     told = line or words_of_status(status)
     return f"{told}; {helps}" if helps else told
+
+
+def ended(name, main, words):
+    """The status of a run, with all that it told written; a run that is broken off, or cannot write, says so in a line."""
+    try:
+        status = main(words)
+        sys.stdout.flush()
+        return status
+    except KeyboardInterrupt:
+        print(f"\n{name}: broken off", file=sys.stderr)
+        return 130
+    except OSError as fault:
+        print(f"{name}: {fault.filename or 'standard output'}: {fault.strerror}", file=sys.stderr)
+        # What is left for standard output cannot be written either.
+        os.dup2(os.open(os.devnull, os.O_WRONLY), sys.stdout.fileno())
+        return 1

@@ -60,6 +60,11 @@ class Element:
         left = self.box.y1 + constant
         return (self.box.x0, left), (self.box.x1, left + slope * self.box.width)
 
+    def depth(self):
+        """How many pixels the feet of a text line's descenders stand below its baseline; 0 where the element tells none."""
+        numbers = numbers_of(self.properties.get("x_depth", ""))
+        return max(0, numbers[0]) if len(numbers) == 1 else 0
+
 
 @dataclass
 class Page:

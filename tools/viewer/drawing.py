@@ -15,6 +15,7 @@ class Layer:
     title: str
     colour: str
     always: bool  # told even where the document has nothing of it
+    first: bool  # shown when the view is opened
     shapes: list = field(default_factory=list)
 
 
@@ -33,8 +34,8 @@ class Shape:
 
 
 @dataclass
-class Baseline:
-    """A line's baseline from its left to its right end."""
+class Stroke:
+    """A line's baseline, or the line on which its descenders stand, from its left to its right end."""
 
     element: object
     left: tuple
@@ -90,15 +91,16 @@ def kind_of(element):
 def empty_layers(cycle):
     order = "Cycle: no reading order" if cycle else "Reading order"
     return [
-        Layer("white", "White rectangles", "#56b4e9", True),
-        Layer("gutter", "Gutters", "#e69f00", True),
-        Layer("other", "Other elements", "#777777", False),
-        Layer("paragraph", "Paragraphs", "#8a7a00", False),
-        Layer("area", "Areas", "#009e73", True),
-        Layer("word", "Words", "#999999", False),
-        Layer("line", "Text lines", "#0072b2", True),
-        Layer("baseline", "Baselines", "#d55e00", True),
-        Layer("order", order, "#c0182b" if cycle else "#8f2a83", True),
+        Layer("white", "White rectangles", "#56b4e9", True, False),
+        Layer("gutter", "Gutters", "#e69f00", True, False),
+        Layer("other", "Other elements", "#777777", False, False),
+        Layer("paragraph", "Paragraphs", "#8a7a00", False, False),
+        Layer("area", "Areas", "#009e73", True, False),
+        Layer("word", "Words", "#999999", False, False),
+        Layer("line", "Text lines", "#0072b2", True, True),
+        Layer("baseline", "Baselines", "#d55e00", True, True),
+        Layer("descender", "Feet of descenders", "#cc79a7", False, True),
+        Layer("order", order, "#c0182b" if cycle else "#8f2a83", True, True),
     ]
 
 
@@ -189,7 +191,10 @@ def draw(page):
     for line in lines:
         ends = line.baseline()
         if ends is not None:
-            drawing.layer("baseline").shapes.append(Baseline(line, *ends))
+            drawing.layer("baseline").shapes.append(Stroke(line, *ends))
+            if line.depth() > 0:
+                below = [(x, y + line.depth()) for x, y in ends]
+                drawing.layer("descender").shapes.append(Stroke(line, *below))
     drawing.layer("order").shapes = drawing.badges
     drawing.layers = [layer for layer in drawing.layers if layer.always or layer.shapes]
     return drawing
