@@ -1,6 +1,6 @@
 -- A run that ends for a refusal with its cause, or with its output written, is a run as both programs promise it.
-use Rattle.std.proofs.Common.{◌≡◌, ◌≢◌, ◌⊎◌, ℕ, List, None, Some, Ok, Err, refl, ap, sym, ◌∙◌, subst, inl, inr, arith}
-use Rattle.std.specs.Prelude.{⊤, IfSome, IfOk, IfErr, Result}
+use Rattle.std.proofs.Common.{◌≡◌, ◌⊎◌, ℕ, List, None, Some, Ok, Err, refl, ap, sym, ◌∙◌, subst, inl, inr, arith}
+use Rattle.std.specs.Prelude.{IfSome, IfOk, IfErr, Result}
 use Rattle.layout_outside.specs.Causes.{Rose}
 use Rattle.layout_outside.specs.Views.{SourceView}
 use Rattle.layout_outside.specs.Written.{Appended, AppendedPart}

@@ -1,5 +1,5 @@
 -- A page has one layout, and a run one output.
-use Rattle.std.proofs.Common.{◌≡◌, ◌∙◌, ℕ, ◌+◌, ◌≤◌, max, List, length, map, Option, None, Some, refl, sym, ap, subst, arith, inl, inr}
+use Rattle.std.proofs.Common.{◌≡◌, ◌∙◌, ℕ, ◌+◌, ◌≤◌, max, List, length, map, Option, None, Some, sym, ap, subst, arith, inl, inr}
 use Rattle.std.specs.Ordering.{is_lt}
 use Rattle.std.specs.Cmp.{IsStrictWeakOrder, then_total, on_total}
 use Rattle.std.proofs.lemmas.Cmp.{nat_cmp_total}

@@ -1,5 +1,5 @@
 -- How a run ends: its status, why that comes, and when it has to come. Both programs promise it in the same words.
-use Rattle.std.specs.Prelude.{◌≡◌, ◌≢◌, ◌≤◌, ◌⊎◌, ⊤, ℕ, List, None, Some, Result, Err, IfSome, IfOk, IsErr, IfErr}
+use Rattle.std.specs.Prelude.{◌≡◌, ◌≢◌, ◌≤◌, ◌⊎◌, ⊤, ℕ, List, Some, Result, Err, IfSome, IfOk, IsErr, IfErr}
 use Rattle.layout_outside.specs.Causes.{Rose}
 use Rattle.layout_outside.specs.Views.{SourceView, SinkView}
 use Rattle.layout_outside.specs.Taken.{Took}

@@ -1,6 +1,6 @@
 -- What holds of the keys of all lines of the grid.
 use Rattle.std.proofs.Common.{◌≡◌, ℕ, ◌+◌, ◌-◌, ◌*◌, ◌^◌, ◌<◌, ◌≤◌, ℤ, pos, negsuc, ◌+ℤ◌, ◌<ℤ◌}
-use Rattle.std.proofs.Common.{unsigned_abs, arith, ◌⊎◌, ⊎_elim, inl, inr, ap, sym}
+use Rattle.std.proofs.Common.{unsigned_abs, arith, ◌⊎◌, ⊎_elim, inl, inr, ap}
 use Rattle.std.proofs.lemmas.Int.{ints}
 use Rattle.line_quality.specs.declared.limits.TheConstants.{OFFSET_MARGIN, MAX_DEPTH, MAX_RANK}
 use Rattle.line_quality.specs.Points.{IsSlope, IsOffset}

@@ -1,5 +1,5 @@
 -- Lines of the grid, each a slope in thousandths, an offset and a depth: its descenders reach so many rows below it.
-use Rattle.std.specs.Prelude.{ℕ, ◌+◌, ◌-◌, ◌*◌, ◌/◌, ◌≤◌, min, ℤ, pos, negsuc, ◌+ℤ◌, ◌-ℤ◌, ◌*ℤ◌, ◌≤ℤ◌, ◌<ℤ◌}
+use Rattle.std.specs.Prelude.{ℕ, ◌+◌, ◌-◌, ◌*◌, ◌/◌, ◌≤◌, min, ℤ, pos, ◌+ℤ◌, ◌-ℤ◌, ◌*ℤ◌, ◌≤ℤ◌, ◌<ℤ◌}
 use Rattle.std.specs.Prelude.{Bool, ◌&&◌, int_lt, int_le, nat_le, unsigned_abs, List}
 use Rattle.std.specs.List.{count_by}
 use Rattle.std.specs.Int.{int_div_euclid}

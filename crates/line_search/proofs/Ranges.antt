@@ -14,9 +14,6 @@ use borrow.Author.Differences.{up, down}
 pub length_one : (low high : ℤ) → negsuc 9999 ≤ℤ low → low <ℤ high → high ≤ℤ pos 9999 → (IsTrue (nat_eq (of_z w32 (to_z w32 (of_z w32 high) -ℤ to_z w32 (of_z w32 low))) 1) → high ≡ low +ℤ pos 1) × (high ≡ low +ℤ pos 1 → IsTrue (nat_eq (of_z w32 (to_z w32 (of_z w32 high) -ℤ to_z w32 (of_z w32 low))) 1))
 length_one low high a b c = (grind (arith, ints, nat_tests), grind (arith, ints, nat_tests))
 
-pub length_is_one : (low high : ℤ) → negsuc 9999 ≤ℤ low → low <ℤ high → high ≤ℤ pos 9999 → of_z w32 (to_z w32 (of_z w32 high) -ℤ to_z w32 (of_z w32 low)) ≡ 1 → high ≡ low +ℤ pos 1
-length_is_one low high a b c e = omega (arith, ints)
-
 pub in_8 : (z : ℤ) → negsuc 31 ≤ℤ z → z ≤ℤ pos 32 → to_z w8 (of_z w8 (to_z w32 (of_z w32 z))) ≡ z
 in_8 z low high = omega (arith, ints)
 

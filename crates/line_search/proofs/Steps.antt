@@ -152,93 +152,84 @@ corners_of height deep shape part is =
       most = is.most;
     }
 
+-- the part's ranges have numbers, all of which are the shape's
+record LiesWithin (shape part : Shape) : Type 0 where
+  from_slope : shape.a0 ≤ℤ part.a0
+  some_slope : part.a0 <ℤ part.a1
+  to_slope : part.a1 ≤ℤ shape.a1
+  from_offset : shape.b0 ≤ℤ part.b0
+  some_offset : part.b0 <ℤ part.b1
+  to_offset : part.b1 ≤ℤ shape.b1
+  from_depth : shape.c0 ≤ℤ part.c0
+  some_depth : part.c0 <ℤ part.c1
+  to_depth : part.c1 ≤ℤ shape.c1
+
+part_of : (height deep : ℕ) (shape part : Shape) → IsInGrid height deep shape → LiesWithin shape part → size part < size shape → IsPartOf height deep shape part
+part_of height deep shape part grid within smaller = record {
+  in_grid = record {
+    page = grid.page;
+    depths = grid.depths;
+    from_slope = omega (arith, ints, grid.from_slope, within.from_slope);
+    some_slope = within.some_slope;
+    to_slope = omega (arith, ints, grid.to_slope, within.to_slope);
+    from_offset = omega (arith, ints, grid.from_offset, within.from_offset);
+    some_offset = within.some_offset;
+    to_offset = omega (arith, ints, grid.to_offset, within.to_offset);
+    from_depth = omega (arith, ints, grid.from_depth, within.from_depth);
+    some_depth = within.some_depth;
+    to_depth = omega (arith, ints, grid.to_depth, within.to_depth);
+  };
+  smaller = smaller;
+  inside = λ slope offset depth at. record {
+    from_slope = omega (arith, ints, at.from_slope, within.from_slope);
+    to_slope = omega (arith, ints, at.to_slope, within.to_slope);
+    from_offset = omega (arith, ints, at.from_offset, within.from_offset);
+    to_offset = omega (arith, ints, at.to_offset, within.to_offset);
+    from_depth = omega (arith, ints, at.from_depth, within.from_depth);
+    to_depth = omega (arith, ints, at.to_depth, within.to_depth);
+  };
+  least = within.from_depth;
+  most = omega (arith, ints, within.to_depth);
+}
+
+kept_within : (a0 a1 b0 b1 c0 c1 : ℤ) (shape : Shape) → (shape.a0 ≤ℤ a0) × (a0 <ℤ a1) × (a1 ≤ℤ shape.a1) → (shape.b0 ≤ℤ b0) × (b0 <ℤ b1) × (b1 ≤ℤ shape.b1) → (shape.c0 ≤ℤ c0) × (c0 <ℤ c1) × (c1 ≤ℤ shape.c1)
+    → LiesWithin shape (record { a0 = a0; a1 = a1; b0 = b0; b1 = b1; c0 = c0; c1 = c1 })
+kept_within a0 a1 b0 b1 c0 c1 shape slopes offsets depths = record {
+  from_slope = slopes.0; some_slope = slopes.1; to_slope = slopes.2;
+  from_offset = offsets.0; some_offset = offsets.1; to_offset = offsets.2;
+  from_depth = depths.0; some_depth = depths.1; to_depth = depths.2;
+}
+
+whole_range : (low high : ℤ) → low <ℤ high → (low ≤ℤ low) × (low <ℤ high) × (high ≤ℤ high)
+whole_range low high some = (omega (arith, ints), some, omega (arith, ints))
+
 module _ (height deep : ℕ) (shape : Shape) (grid : IsInGrid height deep shape) (low high : ℤ) (some : low <ℤ high) where
+  slopes : (shape.a0 ≤ℤ shape.a0) × (shape.a0 <ℤ shape.a1) × (shape.a1 ≤ℤ shape.a1)
+  slopes = whole_range shape.a0 shape.a1 grid.some_slope
+
+  offsets : (shape.b0 ≤ℤ shape.b0) × (shape.b0 <ℤ shape.b1) × (shape.b1 ≤ℤ shape.b1)
+  offsets = whole_range shape.b0 shape.b1 grid.some_offset
+
+  depths : (shape.c0 ≤ℤ shape.c0) × (shape.c0 <ℤ shape.c1) × (shape.c1 ≤ℤ shape.c1)
+  depths = whole_range shape.c0 shape.c1 grid.some_depth
+
   slopes_part : shape.a0 ≤ℤ low → high ≤ℤ shape.a1 → (shape.a0 <ℤ low) ⊎ (high <ℤ shape.a1) → IsPartOf height deep shape (record shape { a0 = low; a1 = high })
   unfolding size
-  slopes_part from to less = record {
-    in_grid = record {
-      page = grid.page;
-      depths = grid.depths;
-      from_slope = omega (arith, ints, grid.from_slope);
-      some_slope = some;
-      to_slope = omega (arith, ints, grid.to_slope);
-      from_offset = grid.from_offset;
-      some_offset = grid.some_offset;
-      to_offset = grid.to_offset;
-      from_depth = grid.from_depth;
-      some_depth = grid.some_depth;
-      to_depth = grid.to_depth;
-    };
-    smaller = product_a (range_length low high) (range_length shape.a0 shape.a1) (range_length shape.b0 shape.b1) (range_length shape.c0 shape.c1) (shorter shape.a0 shape.a1 low high from to less some) (some_length shape.b0 shape.b1 grid.some_offset) (some_length shape.c0 shape.c1 grid.some_depth);
-    inside = λ slope offset depth within. record {
-      from_slope = omega (arith, ints, within.from_slope);
-      to_slope = omega (arith, ints, within.to_slope);
-      from_offset = within.from_offset;
-      to_offset = within.to_offset;
-      from_depth = within.from_depth;
-      to_depth = within.to_depth;
-    };
-    least = omega (arith, ints);
-    most = omega (arith, ints);
-  }
+  slopes_part from to less = part_of height deep shape (record shape { a0 = low; a1 = high }) grid
+    (kept_within low high shape.b0 shape.b1 shape.c0 shape.c1 shape (from, some, to) offsets depths)
+    (product_a (range_length low high) (range_length shape.a0 shape.a1) (range_length shape.b0 shape.b1) (range_length shape.c0 shape.c1) (shorter shape.a0 shape.a1 low high from to less some) (some_length shape.b0 shape.b1 grid.some_offset) (some_length shape.c0 shape.c1 grid.some_depth))
 
   offsets_part : shape.b0 ≤ℤ low → high ≤ℤ shape.b1 → (shape.b0 <ℤ low) ⊎ (high <ℤ shape.b1) → IsPartOf height deep shape (record shape { b0 = low; b1 = high })
   unfolding size
-  offsets_part from to less = record {
-    in_grid = record {
-      page = grid.page;
-      depths = grid.depths;
-      from_slope = grid.from_slope;
-      some_slope = grid.some_slope;
-      to_slope = grid.to_slope;
-      from_offset = omega (arith, ints, grid.from_offset);
-      some_offset = some;
-      to_offset = omega (arith, ints, grid.to_offset);
-      from_depth = grid.from_depth;
-      some_depth = grid.some_depth;
-      to_depth = grid.to_depth;
-    };
-    smaller = product_b (range_length low high) (range_length shape.b0 shape.b1) (range_length shape.a0 shape.a1) (range_length shape.c0 shape.c1) (shorter shape.b0 shape.b1 low high from to less some) (some_length shape.a0 shape.a1 grid.some_slope) (some_length shape.c0 shape.c1 grid.some_depth);
-    inside = λ slope offset depth within. record {
-      from_slope = within.from_slope;
-      to_slope = within.to_slope;
-      from_offset = omega (arith, ints, within.from_offset);
-      to_offset = omega (arith, ints, within.to_offset);
-      from_depth = within.from_depth;
-      to_depth = within.to_depth;
-    };
-    least = omega (arith, ints);
-    most = omega (arith, ints);
-  }
+  offsets_part from to less = part_of height deep shape (record shape { b0 = low; b1 = high }) grid
+    (kept_within shape.a0 shape.a1 low high shape.c0 shape.c1 shape slopes (from, some, to) depths)
+    (product_b (range_length low high) (range_length shape.b0 shape.b1) (range_length shape.a0 shape.a1) (range_length shape.c0 shape.c1) (shorter shape.b0 shape.b1 low high from to less some) (some_length shape.a0 shape.a1 grid.some_slope) (some_length shape.c0 shape.c1 grid.some_depth))
 
   depths_part : shape.c0 ≤ℤ low → high ≤ℤ shape.c1 → (shape.c0 <ℤ low) ⊎ (high <ℤ shape.c1) → IsPartOf height deep shape (record shape { c0 = low; c1 = high })
   unfolding size
-  depths_part from to less = record {
-    in_grid = record {
-      page = grid.page;
-      depths = grid.depths;
-      from_slope = grid.from_slope;
-      some_slope = grid.some_slope;
-      to_slope = grid.to_slope;
-      from_offset = grid.from_offset;
-      some_offset = grid.some_offset;
-      to_offset = grid.to_offset;
-      from_depth = omega (arith, ints, grid.from_depth);
-      some_depth = some;
-      to_depth = omega (arith, ints, grid.to_depth);
-    };
-    smaller = product_c (range_length low high) (range_length shape.c0 shape.c1) (range_length shape.a0 shape.a1) (range_length shape.b0 shape.b1) (shorter shape.c0 shape.c1 low high from to less some) (some_length shape.a0 shape.a1 grid.some_slope) (some_length shape.b0 shape.b1 grid.some_offset);
-    inside = λ slope offset depth within. record {
-      from_slope = within.from_slope;
-      to_slope = within.to_slope;
-      from_offset = within.from_offset;
-      to_offset = within.to_offset;
-      from_depth = omega (arith, ints, within.from_depth);
-      to_depth = omega (arith, ints, within.to_depth);
-    };
-    least = from;
-    most = omega (arith, ints);
-  }
+  depths_part from to less = part_of height deep shape (record shape { c0 = low; c1 = high }) grid
+    (kept_within shape.a0 shape.a1 shape.b0 shape.b1 low high shape slopes offsets (from, some, to))
+    (product_c (range_length low high) (range_length shape.c0 shape.c1) (range_length shape.a0 shape.a1) (range_length shape.b0 shape.b1) (shorter shape.c0 shape.c1 low high from to less some) (some_length shape.a0 shape.a1 grid.some_slope) (some_length shape.b0 shape.b1 grid.some_offset))
 
 halves_are : (height deep : ℕ) (shape lower upper : Shape) → IsInGrid height deep shape → AreHalves shape lower upper → IsPartOf height deep shape lower × IsPartOf height deep shape upper
 halves_are height deep shape lower upper grid (inl (long, is_lower, is_upper)) =

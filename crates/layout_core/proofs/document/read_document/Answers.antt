@@ -1,5 +1,4 @@
 use Rattle.std.proofs.lemmas.Result.{err_from_is_err_and}
-use Rattle.layout_core.specs.Run.{ReadsDocument}
 use Rattle.layout_core.proofs.Components.{rows_refused, layout_refused, page_answered}
 use Rattle.layout_core.proofs.Wholes.{whole_layout}
 use Rattle.layout_core.proofs.document.read_document.Goals as goal

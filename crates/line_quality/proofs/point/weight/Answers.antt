@@ -1,4 +1,4 @@
-use Rattle.std.proofs.Common.{◌≡◌, ◌∙◌, ◌+ℤ◌, ℤ, pos, to_z, of_z, w8, w16, arith, ap}
+use Rattle.std.proofs.Common.{◌≡◌, ◌∙◌, ◌+ℤ◌, ℤ, pos, w8, w16, arith, ap}
 use Rattle.std.proofs.lemmas.Int.{to_z-of_z}
 use Rattle.line_quality.specs.Points.{height_at, middle_of, foot_gap, deviation, weight_at}
 use Rattle.line_quality.proofs.Heights.{gap_is, descent_gap_is}
