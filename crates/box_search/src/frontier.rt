@@ -17,7 +17,8 @@ use std::marker::Model;
 ///
 /// Each of them has room kept for it, once among the open and once among the leased, so `lease` and `reopen` take
 /// no memory. Taking out and adding a node cost a number of comparisons that grows as the logarithm of how many
-/// are open, and a walk over the entries of those that are out.
+/// are open. Taking one out walks over the entries of those that are out, and ending a lease does so where its
+/// number is not the greatest.
 #[derive(Drop)]
 pub struct Frontier<W> {
     open: BinaryHeap<Open<W>>,
@@ -151,7 +152,8 @@ impl<W: Drop> Frontier<W> {
         requires out { Contains self.old.leased (entry_of lease) }
         ensures ends { Ends self.old lease self.new }
     {
-        remove_number(&mut self.leased, lease.number);
+        let ended = lease.number;
+        remove_number(&mut self.leased, ended);
     }
 
     /// How many nodes are open.
