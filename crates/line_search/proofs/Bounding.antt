@@ -10,7 +10,7 @@ use Rattle.line_quality.specs.KeyLaws.{abs_parts}
 use Rattle.line_search.specs.Lines.{IsPoint, deepest}
 use Rattle.line_search.specs.Problem.{GridProblem}
 use Rattle.line_search.specs.Shapes.{IsInside, IsInGrid, least_depth}
-use Rattle.line_search.specs.Bounds.{weighing, most_weight, most_together, plain_weight, plain_bound, nearest_slope, HasMost, IsOver, IsBound}
+use Rattle.line_search.specs.Bounds.{weighing, most_weight, plain_weight, nearest_slope, HasMost, IsOver, IsBound}
 use Rattle.line_search.specs.GridLaws.{inside_of}
 use Rattle.line_search.specs.Parts.{HasNoPoint}
 use Rattle.line_search.proofs.Reaching.{same_group, same_total}

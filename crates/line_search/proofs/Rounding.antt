@@ -1,6 +1,5 @@
 -- The members of a line, and the least rectangle round them.
-use Rattle.std.proofs.Common.{◌≡◌, ℕ, zero, suc, ◌+◌, ◌-◌, ◌*◌, ◌<◌, ◌≤◌, min, max, arith, refl, sym, ◌∙◌, ap, subst, List, [], ◌∷◌, ◌++◌, length, take, get_or, append-nil, Option, Some, slice_get, ℤ, Bool, true, false, not, All, IfSome}
-use Rattle.std.proofs.lemmas.List.{take_all}
+use Rattle.std.proofs.Common.{◌≡◌, ℕ, zero, suc, ◌+◌, ◌<◌, min, max, arith, refl, sym, ◌∙◌, ap, subst, List, [], ◌∷◌, ◌++◌, length, take, get_or, append-nil, Option, Some, slice_get, Bool, true, false, not, All, IfSome}
 use Rattle.std.proofs.lemmas.List.Elements.{filter_more, filter-append, All-get_or, All-more, All-weaker, All-nil, All-cons, All-head, All-tail}
 use Rattle.std.proofs.lemmas.Option.{IfSome_then}
 use Rattle.std.specs.List.{filter, range_with_len}

@@ -195,9 +195,15 @@ part_of height deep shape part grid within smaller = record {
 kept_within : (a0 a1 b0 b1 c0 c1 : ℤ) (shape : Shape) → (shape.a0 ≤ℤ a0) × (a0 <ℤ a1) × (a1 ≤ℤ shape.a1) → (shape.b0 ≤ℤ b0) × (b0 <ℤ b1) × (b1 ≤ℤ shape.b1) → (shape.c0 ≤ℤ c0) × (c0 <ℤ c1) × (c1 ≤ℤ shape.c1)
     → LiesWithin shape (record { a0 = a0; a1 = a1; b0 = b0; b1 = b1; c0 = c0; c1 = c1 })
 kept_within a0 a1 b0 b1 c0 c1 shape slopes offsets depths = record {
-  from_slope = slopes.0; some_slope = slopes.1; to_slope = slopes.2;
-  from_offset = offsets.0; some_offset = offsets.1; to_offset = offsets.2;
-  from_depth = depths.0; some_depth = depths.1; to_depth = depths.2;
+  from_slope = slopes.0;
+  some_slope = slopes.1;
+  to_slope = slopes.2;
+  from_offset = offsets.0;
+  some_offset = offsets.1;
+  to_offset = offsets.2;
+  from_depth = depths.0;
+  some_depth = depths.1;
+  to_depth = depths.2;
 }
 
 whole_range : (low high : ℤ) → low <ℤ high → (low ≤ℤ low) × (low <ℤ high) × (high ≤ℤ high)
@@ -216,20 +222,20 @@ module _ (height deep : ℕ) (shape : Shape) (grid : IsInGrid height deep shape)
   slopes_part : shape.a0 ≤ℤ low → high ≤ℤ shape.a1 → (shape.a0 <ℤ low) ⊎ (high <ℤ shape.a1) → IsPartOf height deep shape (record shape { a0 = low; a1 = high })
   unfolding size
   slopes_part from to less = part_of height deep shape (record shape { a0 = low; a1 = high }) grid
-    (kept_within low high shape.b0 shape.b1 shape.c0 shape.c1 shape (from, some, to) offsets depths)
-    (product_a (range_length low high) (range_length shape.a0 shape.a1) (range_length shape.b0 shape.b1) (range_length shape.c0 shape.c1) (shorter shape.a0 shape.a1 low high from to less some) (some_length shape.b0 shape.b1 grid.some_offset) (some_length shape.c0 shape.c1 grid.some_depth))
+      (kept_within low high shape.b0 shape.b1 shape.c0 shape.c1 shape (from, some, to) offsets depths)
+      (product_a (range_length low high) (range_length shape.a0 shape.a1) (range_length shape.b0 shape.b1) (range_length shape.c0 shape.c1) (shorter shape.a0 shape.a1 low high from to less some) (some_length shape.b0 shape.b1 grid.some_offset) (some_length shape.c0 shape.c1 grid.some_depth))
 
   offsets_part : shape.b0 ≤ℤ low → high ≤ℤ shape.b1 → (shape.b0 <ℤ low) ⊎ (high <ℤ shape.b1) → IsPartOf height deep shape (record shape { b0 = low; b1 = high })
   unfolding size
   offsets_part from to less = part_of height deep shape (record shape { b0 = low; b1 = high }) grid
-    (kept_within shape.a0 shape.a1 low high shape.c0 shape.c1 shape slopes (from, some, to) depths)
-    (product_b (range_length low high) (range_length shape.b0 shape.b1) (range_length shape.a0 shape.a1) (range_length shape.c0 shape.c1) (shorter shape.b0 shape.b1 low high from to less some) (some_length shape.a0 shape.a1 grid.some_slope) (some_length shape.c0 shape.c1 grid.some_depth))
+      (kept_within shape.a0 shape.a1 low high shape.c0 shape.c1 shape slopes (from, some, to) depths)
+      (product_b (range_length low high) (range_length shape.b0 shape.b1) (range_length shape.a0 shape.a1) (range_length shape.c0 shape.c1) (shorter shape.b0 shape.b1 low high from to less some) (some_length shape.a0 shape.a1 grid.some_slope) (some_length shape.c0 shape.c1 grid.some_depth))
 
   depths_part : shape.c0 ≤ℤ low → high ≤ℤ shape.c1 → (shape.c0 <ℤ low) ⊎ (high <ℤ shape.c1) → IsPartOf height deep shape (record shape { c0 = low; c1 = high })
   unfolding size
   depths_part from to less = part_of height deep shape (record shape { c0 = low; c1 = high }) grid
-    (kept_within shape.a0 shape.a1 shape.b0 shape.b1 low high shape slopes offsets (from, some, to))
-    (product_c (range_length low high) (range_length shape.c0 shape.c1) (range_length shape.a0 shape.a1) (range_length shape.b0 shape.b1) (shorter shape.c0 shape.c1 low high from to less some) (some_length shape.a0 shape.a1 grid.some_slope) (some_length shape.b0 shape.b1 grid.some_offset))
+      (kept_within shape.a0 shape.a1 shape.b0 shape.b1 low high shape slopes offsets (from, some, to))
+      (product_c (range_length low high) (range_length shape.c0 shape.c1) (range_length shape.a0 shape.a1) (range_length shape.b0 shape.b1) (shorter shape.c0 shape.c1 low high from to less some) (some_length shape.a0 shape.a1 grid.some_slope) (some_length shape.b0 shape.b1 grid.some_offset))
 
 halves_are : (height deep : ℕ) (shape lower upper : Shape) → IsInGrid height deep shape → AreHalves shape lower upper → IsPartOf height deep shape lower × IsPartOf height deep shape upper
 halves_are height deep shape lower upper grid (inl (long, is_lower, is_upper)) =

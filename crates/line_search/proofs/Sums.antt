@@ -1,5 +1,5 @@
 -- What one more box adds to what the columns can weigh.
-use Rattle.std.proofs.Common.{◌≡◌, ℕ, ◌+◌, ◌<◌, ◌≤◌, true, false, not, cond, eqb, ltb, List, length, get_or, take, Some, slice_get, arith, refl, ◌∙◌}
+use Rattle.std.proofs.Common.{◌≡◌, ℕ, ◌+◌, ◌<◌, ◌≤◌, false, not, cond, eqb, ltb, List, length, get_or, take, Some, slice_get, arith, refl, ◌∙◌}
 use Rattle.std.specs.List.{filter}
 use Rattle.std.proofs.lemmas.List.Elements.{filter_more}
 use Rattle.std.proofs.lemmas.List.Filters.{sum_by-filter_both}

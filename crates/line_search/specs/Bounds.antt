@@ -1,5 +1,5 @@
 -- What the lines of a shape can score at most.
-use Rattle.std.specs.Prelude.{take, drop, ◌-◌, ◌≡◌, ℕ, ◌+◌, ◌<◌, ◌≤◌, min, ℤ, pos, ◌+ℤ◌, ◌-ℤ◌, List, length, Option, Some, None}
+use Rattle.std.specs.Prelude.{take, drop, ◌-◌, ◌≡◌, ℕ, ◌+◌, ◌≤◌, min, ℤ, pos, ◌+ℤ◌, ◌-ℤ◌, List, length, Option, Some, None}
 use Rattle.std.specs.Prelude.{slice_get, Bool, false, ◌&&◌, ◌==◌, int_lt, int_le, nat_le, nat_lt}
 use Rattle.std.specs.Int.{int_gap, int_min, int_max}
 use Rattle.std.specs.List.{sum_by, count_by, filter}

@@ -1,5 +1,5 @@
 -- The lines of text of a page, each the best of the grid among the boxes that are in no line before it.
-use Rattle.std.specs.Prelude.{◌≡◌, ℕ, ◌+◌, ◌*◌, ◌/◌, ◌≤◌, min, ℤ, pos, negsuc, ◌≤ℤ◌, Bool, false, not, ◌==◌, List}
+use Rattle.std.specs.Prelude.{◌≡◌, ℕ, ◌+◌, ◌/◌, ◌≤◌, min, ℤ, pos, ◌≤ℤ◌, Bool, false, not, ◌==◌, List}
 use Rattle.std.specs.Prelude.{[], ◌∷◌, Option, Some, None, slice_get, length, IfSome, All}
 use Rattle.std.specs.List.{filter, list_any, range_with_len}
 use Rattle.layout_limits.specs.declared.TheConstants.{MAX_SIDE}

@@ -1,6 +1,5 @@
 -- What holds of all problems: their numbers decide them.
-use Rattle.std.proofs.Common.{◌≡◌, ℕ, List, [], ◌∷◌, ◌++◌, map, length, arith, refl, subst, append-nil}
-use Rattle.std.specs.Prelude.{ℤ, pos}
+use Rattle.std.proofs.Common.{◌≡◌, ℕ, List, [], ◌++◌, append-nil}
 use Rattle.layout_geom.specs.declared.rect.Rect.{Rect}
 use Rattle.layout_geom.specs.BoxNumbers.{same_boxes, boxes_numbers}
 use Rattle.layout_geom.specs.NumberLists.{same_first, same_numbers}

@@ -1,5 +1,5 @@
 -- What it means to take the line of a key away.
-use Rattle.std.specs.Prelude.{◌≡◌, ℕ, ◌≤◌, List, not, slice_get}
+use Rattle.std.specs.Prelude.{◌≡◌, ℕ, ◌≤◌, not, slice_get}
 use Rattle.std.specs.List.{filter}
 use Rattle.line_quality.specs.Keys.{line_key}
 use Rattle.line_quality.specs.Scores.{IsScore, group_of, is_of}

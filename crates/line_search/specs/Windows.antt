@@ -1,5 +1,5 @@
 -- The search for the best line by ranges of rows, each for a range of offsets.
-use Rattle.std.specs.Prelude.{◌≡◌, ℕ, ◌+◌, ◌<◌, ◌≤◌, ℤ, pos, negsuc, ◌+ℤ◌, ◌≤ℤ◌, Bool, true, false, ◌&&◌}
+use Rattle.std.specs.Prelude.{◌≡◌, ℕ, ◌+◌, ◌<◌, ◌≤◌, ℤ, pos, ◌+ℤ◌, ◌≤ℤ◌, Bool, true, false, ◌&&◌}
 use Rattle.std.specs.Prelude.{nat_le, nat_lt, List, Option, Some, None, slice_get, All, Any}
 use Rattle.std.specs.List.{filter}
 use Rattle.layout_geom.specs.declared.rect.Rect.{Rect}

@@ -1,4 +1,4 @@
-use Rattle.std.proofs.Common.{◌≡◌, ◌∙◌, ◌+ℤ◌, ◌-ℤ◌, ℤ, pos, to_z, of_z, w32, arith, ap, refl}
+use Rattle.std.proofs.Common.{◌≡◌, ◌∙◌, ◌+ℤ◌, ◌-ℤ◌, pos, arith, ap}
 use Rattle.std.proofs.lemmas.Int.{ints}
 use Rattle.line_quality.specs.Points.{middle_of, weight_at}
 use Rattle.line_search.specs.Bounds.{lowest, highest, gap_to, distance}
