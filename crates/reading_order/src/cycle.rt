@@ -3,8 +3,9 @@ ghost use Rattle.std.specs.Prelude.{◌≡◌, ℕ, ◌<◌, ◌≤◌, ◌^◌,
 ghost use Rattle.reading_order.specs.Tables.{Marks};
 ghost use Rattle.reading_order.specs.Steps.{AreSteps, AreAtLeast, HasNext, IsLeastNext};
 ghost use Rattle.reading_order.specs.Cycles.{IsCycle, IsLeastCycle, AreOnNone};
+ghost use Rattle.reading_order.specs.Groups.{AreClosed};
 
-use crate::ends::flag_ends;
+use crate::groups::flag_groups;
 use crate::steps::steps_to;
 use crate::table::Table;
 use layout_geom::Numbers;
@@ -96,8 +97,7 @@ fn least_cycle_among(
 
 /// The least cycle, where the numbers that were taken are on none.
 ///
-/// A search back from each start takes up to n*n steps for n numbers, so most of the starts that fail are passed over:
-/// those behind no cycle, which were taken, and those before none.
+/// A search back from a start takes up to n*n steps for n numbers, so the starts on no cycle are flagged first.
 pub(crate) fn least_cycle(
     alloc: Global,
     before: &Table,
@@ -105,11 +105,12 @@ pub(crate) fn least_cycle(
 ) -> Result<Numbers, OutOfMemory>
     requires small { before.now.side < 2 ^ 32 }
     requires count { length taken.items ≡ before.now.side }
+    requires closed { AreClosed before.now taken.items }
     requires none { AreOnNone (Marks before.now) before.now.side taken.items }
     requires cycle { (cycle : List ℕ) × IsCycle (Marks before.now) before.now.side cycle }
     ensures { IfOk result (IsLeastCycle (Marks before.now) before.now.side) }
 {
     let mut on_none = taken;
-    flag_ends(before, &mut on_none);
+    flag_groups(alloc, before, &mut on_none)?;
     least_cycle_among(alloc, before, &on_none)
 }

@@ -1,0 +1,62 @@
+-- The levels of a search back that gathers the numbers on one cycle into groups, which stand on a path from level 1 on.
+use Rattle.std.specs.Prelude.{◌≡◌, ℕ, ◌-◌, ◌<◌, ◌≤◌, ◌^◌, List, Bool, true, false, length, slice_index, slice_index_or, ◌⊎◌}
+use Rattle.reading_order.specs.declared.table.Table.{Table}
+use Rattle.reading_order.specs.Tables.{Marks}
+
+-- the level of what is in a closed group
+abbrev pub closed_level : ℕ
+closed_level = 2 ^ 64 - 1
+
+-- none of the numbers below `upto` is before a number and stands lower
+abbrev pub IsNoneLower : Table → List ℕ → ℕ → ℕ → Type 0
+IsNoneLower before levels x upto = (y : ℕ) → y < upto → Marks before y x → slice_index levels x ≤ slice_index levels y
+
+-- Numbers that were not met have level 0, those on the path the level of their group, and closed ones the highest level.
+pub record AreLevels (before : Table) (levels looked : List ℕ) (depth : ℕ) : Type 0 where
+  pub count : length levels ≡ before.side
+  pub looked_count : length looked ≡ before.side
+  pub low : (x : ℕ) → x < before.side → slice_index looked x ≤ before.side
+  pub rise : (x : ℕ) → x < before.side → IsNoneLower before levels x (slice_index looked x)
+  pub unmet : (x : ℕ) → x < before.side → slice_index levels x ≡ 0 → slice_index looked x ≡ 0
+  pub closed : (x : ℕ) → x < before.side → slice_index levels x ≡ closed_level → slice_index looked x ≡ before.side
+  pub last : (x : ℕ) → x < before.side → depth < slice_index levels x → slice_index levels x ≡ closed_level
+
+-- all that is before the numbers at a level was looked at
+abbrev pub IsLookedWhole : Table → List ℕ → List ℕ → ℕ → Type 0
+IsLookedWhole before levels looked level =
+    (x : ℕ) → x < before.side → slice_index levels x ≡ level → slice_index looked x ≡ before.side
+
+-- what is before a number that stands at a level or above it stands no lower
+abbrev pub AreSettled : Table → List ℕ → ℕ → Type 0
+AreSettled before levels level =
+    (x y : ℕ) → x < before.side → y < before.side → level ≤ slice_index levels x → Marks before y x
+    → slice_index levels x ≤ slice_index levels y
+
+-- a number below the last group, or one that was not met while there is no group
+abbrev pub IsMetNext : List ℕ → ℕ → ℕ → Type 0
+IsMetNext levels depth x = (slice_index levels x < depth) ⊎ (slice_index levels x ≡ 0)
+
+-- the only number at a level, among those below a place
+pub record IsLoneAt (levels : List ℕ) (level place x : ℕ) : Type 0 where
+  pub low : x < place
+  pub at : slice_index levels x ≡ level
+  pub only : (y : ℕ) → y < place → slice_index levels y ≡ level → y ≡ x
+
+-- the numbers below a place that stood at one level, at another or between now stand at a level, and all else stays
+pub record AreMoved (old new : List ℕ) (least most level place : ℕ) : Type 0 where
+  pub count : length new ≡ length old
+  pub moved : (x : ℕ) → x < place → least ≤ slice_index old x → slice_index old x ≤ most → slice_index new x ≡ level
+  pub stays : (x : ℕ) → (slice_index old x < least) ⊎ (most < slice_index old x) → slice_index new x ≡ slice_index old x
+  pub later : (x : ℕ) → place ≤ x → slice_index new x ≡ slice_index old x
+
+-- what is before a number that is flagged is flagged
+abbrev pub AreClosed : Table → List Bool → Type 0
+AreClosed before flags =
+    (x y : ℕ) → x < before.side → y < before.side → slice_index_or flags x false ≡ true → Marks before y x
+    → slice_index_or flags y false ≡ true
+
+-- the numbers below a place have a value where they are flagged, and 0 where they are not
+pub record IsValueOf (flags : List Bool) (value : ℕ) (values : List ℕ) (place : ℕ) : Type 0 where
+  pub count : length values ≡ length flags
+  pub flagged : (x : ℕ) → x < place → slice_index_or flags x false ≡ true → slice_index values x ≡ value
+  pub others : (x : ℕ) → x < length flags → slice_index_or flags x false ≡ false → slice_index values x ≡ 0
