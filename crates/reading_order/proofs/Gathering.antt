@@ -19,12 +19,12 @@ module _ (before : Table) (levels : List ℕ) (depth : ℕ) (settled : AreSettle
       omega (arith, more, step)
 
   -- a number that stands there alone, and is not before itself, is on no cycle
-  lone_on_none : (x : ℕ) → IsLoneAt levels depth before.side x → (Marks before x x → ⊥) → StartsNoCycle (Marks before) before.side x
-  lone_on_none x lone not_itself [] is same = is.ring
-  lone_on_none x lone not_itself (w ∷ []) is same =
+  lone_on_none : (x : ℕ) → length levels ≡ before.side → IsLoneAt levels depth x → (Marks before x x → ⊥) → StartsNoCycle (Marks before) before.side x
+  lone_on_none x count lone not_itself [] is same = is.ring
+  lone_on_none x count lone not_itself (w ∷ []) is same =
       let P : ℕ → Type 0 = λ z. Marks before z z in
       not_itself (subst P same is.ring)
-  lone_on_none x lone not_itself (w ∷ z ∷ zs) is same =
+  lone_on_none x count lone not_itself (w ∷ z ∷ zs) is same =
       let side = before.side in
       let w_low : w < side = All-head (λ v. v < side) w (z ∷ zs) is.within in
       let rest : All (λ v. v < side) (z ∷ zs) = All-tail (λ v. v < side) w (z ∷ zs) is.within in
@@ -33,20 +33,20 @@ module _ (before : Table) (levels : List ℕ) (depth : ℕ) (settled : AreSettle
       let here : get_or levels w 0 ≡ depth = subst P (sym same) lone.at in
       let up = levels_rise z zs w z_low w_low (All-tail (λ v. v < side) z zs rest) is.ring.1 (omega (arith, here)) in
       let down = settled z w z_low w_low (omega (arith, here, up)) is.ring.0 in
-      let alike : z ≡ x = lone.only z z_low (omega (arith, here, up, down)) in
+      let alike : z ≡ x = lone.only z (omega (arith, z_low, count)) (omega (arith, here, up, down)) in
       let Q : ℕ → Type 0 = λ v. Marks before v z in
       let R : ℕ → Type 0 = λ v. Marks before x v in
       not_itself (subst R alike (subst Q same is.ring.0))
 
-  pub flagged_lone : (flags : List Bool) (x : ℕ) → AreOnNone (Marks before) before.side flags → IsLoneAt levels depth before.side x → (Marks before x x → ⊥) → AreOnNone (Marks before) before.side (set flags x true)
-  flagged_lone flags x none lone not_itself z low h =
+  pub flagged_lone : (flags : List Bool) (x : ℕ) → AreOnNone (Marks before) before.side flags → length levels ≡ before.side → IsLoneAt levels depth x → (Marks before x x → ⊥) → AreOnNone (Marks before) before.side (set flags x true)
+  flagged_lone flags x none count lone not_itself z low h =
       ⊎_elim
-      (λ same. let P : ℕ → Type 0 = λ w. StartsNoCycle (Marks before) before.side w in subst P (sym same) (lone_on_none x lone not_itself))
+      (λ same. let P : ℕ → Type 0 = λ w. StartsNoCycle (Marks before) before.side w in subst P (sym same) (lone_on_none x count lone not_itself))
       (λ ne. none z low (sym (get_or-set_other flags x z true false ne) ∙ h))
       (cases_eq z x)
 
 -- where a number stands after all levels from one to another have moved to one
-abbrev Stands : List ℕ → List ℕ → ℕ → ℕ → ℕ → ℕ → Type 0
+abbrev pub Stands : List ℕ → List ℕ → ℕ → ℕ → ℕ → ℕ → Type 0
 Stands old new least most level x =
     ((get_or old x 0 < least) × (get_or new x 0 ≡ get_or old x 0))
     ⊎ ((most < get_or old x 0) × (get_or new x 0 ≡ get_or old x 0))
@@ -129,7 +129,7 @@ module _ (before : Table) (levels looked : List ℕ) (depth : ℕ) (are : AreLev
       }
 
   module _ (new : List ℕ) (least most level : ℕ) (moved : AreMoved levels new least most level before.side) where
-    where_moved : (x : ℕ) → x < before.side → Stands levels new least most level x
+    pub where_moved : (x : ℕ) → x < before.side → Stands levels new least most level x
     where_moved x low =
         ⊎_elim
         (λ under. inl (under, moved.stays x (inl under)))

@@ -9,6 +9,8 @@ pub mod Taken
 pub mod Waves
 pub mod Turns
 pub mod Gathering
+pub mod Gathered
+pub mod Shortening
 pub mod Agreeing
 pub mod Answering
 pub mod Rounds

@@ -14,7 +14,7 @@ module _ (before : ℕ → ℕ → Type 0) (limit : ℕ) where
   leads_split x [] z zs y h = (h.0, h.1)
   leads_split x (w ∷ ws) z zs y h = let r = leads_split w ws z zs y h.1 in ((h.0, r.0), r.1)
 
-  leads_join : (x : ℕ) (xs : List ℕ) (z : ℕ) (zs : List ℕ) (y : ℕ) → Leads before x xs z → Leads before z zs y → Leads before x (xs ++ z ∷ zs) y
+  pub leads_join : (x : ℕ) (xs : List ℕ) (z : ℕ) (zs : List ℕ) (y : ℕ) → Leads before x xs z → Leads before z zs y → Leads before x (xs ++ z ∷ zs) y
   leads_join x [] z zs y first second = (first, second)
   leads_join x (w ∷ ws) z zs y first second = (first.0, leads_join w ws z zs y first.1 second)
 

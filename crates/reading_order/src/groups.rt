@@ -2,7 +2,7 @@
 ghost use Rattle.std.specs.Prelude.{◌≡◌, ℕ, ◌+◌, ◌*◌, ◌<◌, ◌≤◌, ◌^◌, length, Bool, true, false, slice_index, slice_index_or, IfOk, OnOk, IfSome, IfNone, MatchOption};
 ghost use Rattle.reading_order.specs.Tables.{Marks};
 ghost use Rattle.reading_order.specs.Cycles.{AreOnNone};
-ghost use Rattle.reading_order.specs.Groups.{AreLevels, IsNoneLower, AreMoved, IsLoneAt, IsMetNext, AreSettled, IsLookedWhole, AreClosed, IsValueOf};
+ghost use Rattle.reading_order.specs.Groups.{AreLevels, IsNoneLower, IsBeforeGroup, IsChained, AreGathered, IsFlaggedOrOnRing, AreFlaggedOrOnRings, AreSeveralAt, count_unmet, AreMoved, IsFirstAt, IsNoneAt, IsLoneAt, IsMetNext, AreSettled, IsLookedWhole, AreClosed, IsValueOf};
 
 use crate::table::Table;
 use layout_limits::OutOfMemory;
@@ -21,6 +21,7 @@ fn next_lower(before: &Table, levels: &[usize], number: usize, looked: &mut usiz
     ensures none { IsNoneLower before.now levels.now number looked.new }
     ensures found { IfSome result (λ earlier. earlier < before.now.side) }
     ensures lower { IfSome result (λ earlier. slice_index levels.now earlier < slice_index levels.now number) }
+    ensures marks { IfSome result (λ earlier. Marks before.now earlier number) }
     ensures whole { IfNone result (looked.new ≡ before.now.side) }
 {
     for earlier in *looked..before.side() {
@@ -46,6 +47,7 @@ fn lower_than_group(
     ensures levels { AreLevels before.now levels.now looked.new depth }
     ensures found { IfSome result (λ earlier. earlier < before.now.side) }
     ensures lower { IfSome result (λ earlier. slice_index levels.now earlier < depth) }
+    ensures group { IfSome result (IsBeforeGroup before.now levels.now depth) }
     ensures whole { IfNone result (IsLookedWhole before.now levels.now looked.new depth) }
 {
     for number in 0..before.side() {
@@ -59,13 +61,13 @@ fn lower_than_group(
     None
 }
 
-/// The first number that was not met yet.
-fn first_unmet(levels: &[usize]) -> Option<usize>
-    ensures found { IfSome result (λ number. number < length levels.now) }
-    ensures unmet { IfSome result (λ number. slice_index levels.now number ≡ 0) }
+/// The first number at a level, from a place on.
+fn first_at(levels: &[usize], level: usize, from: usize) -> Option<usize>
+    ensures found { IfSome result (IsFirstAt levels.now level from) }
+    ensures none { IfNone result (IsNoneAt levels.now level from) }
 {
-    for number in 0..levels.len() {
-        if levels[number] == 0 {
+    for number in from..levels.len() {
+        if levels[number] == level {
             return Some(number);
         }
     }
@@ -74,18 +76,14 @@ fn first_unmet(levels: &[usize]) -> Option<usize>
 
 /// The number at a level, where it is the only one there.
 fn only_at(levels: &[usize], level: usize) -> Option<usize>
-    ensures { IfSome result (IsLoneAt levels.now level (length levels.now)) }
+    ensures lone { IfSome result (IsLoneAt levels.now level) }
+    ensures several { IfNone result (AreSeveralAt levels.now level) }
 {
-    let mut found = None;
-    for number in 0..levels.len() {
-        if levels[number] == level {
-            if found.is_some() {
-                return None;
-            }
-            found = Some(number);
-        }
+    let number = first_at(levels, level, 0)?;
+    match first_at(levels, level, number + 1) {
+        Some(other) => None,
+        None => Some(number),
     }
-    found
 }
 
 /// Moves all numbers from one level to another one to a level.
@@ -104,9 +102,13 @@ fn flag_lone(before: &Table, levels: &[usize], depth: usize, flags: &mut [bool])
     requires levels { length levels.now ≡ before.now.side }
     requires count { length flags.old ≡ before.now.side }
     requires settled { AreSettled before.now levels.now depth }
+    requires some { 0 < depth }
+    requires chained { IsChained before.now levels.now depth }
     requires none { AreOnNone (Marks before.now) before.now.side flags.old }
     ensures count { length flags.new ≡ before.now.side }
     ensures none { AreOnNone (Marks before.now) before.now.side flags.new }
+    ensures grows { (x : ℕ) → x < before.now.side → slice_index_or flags.old x false ≡ true → slice_index_or flags.new x false ≡ true }
+    ensures rings { (x : ℕ) → x < before.now.side → slice_index levels.now x ≡ depth → IsFlaggedOrOnRing before.now flags.new x }
 {
     if let Some(number) = only_at(levels, depth) {
         if !before.get(number, number) {
@@ -135,11 +137,12 @@ fn next_met(before: &Table, levels: &[usize], looked: &mut [usize], depth: usize
     requires levels { AreLevels before.now levels.now looked.old depth }
     ensures levels { AreLevels before.now levels.now looked.new depth }
     ensures found { IfSome result (λ number. number < before.now.side) }
-    ensures lower { IfSome result (λ number. IsMetNext levels.now depth number) }
+    ensures next { IfSome result (IsMetNext before.now levels.now depth) }
+    ensures end { IfNone result (depth ≡ 0 → IsNoneAt levels.now 0 0) }
     ensures whole { IfNone result (0 < depth → IsLookedWhole before.now levels.now looked.new depth) }
 {
     if depth == 0 {
-        first_unmet(levels)
+        first_at(levels, 0, 0)
     } else {
         lower_than_group(before, levels, looked, depth)
     }
@@ -157,8 +160,12 @@ fn turn(
     requires count { length flags.old ≡ before.now.side }
     requires levels { AreLevels before.now levels.old looked.old depth }
     requires none { AreOnNone (Marks before.now) before.now.side flags.old }
+    requires gathered { AreGathered before.now levels.old flags.old depth }
     ensures count { length flags.new ≡ before.now.side }
     ensures none { AreOnNone (Marks before.now) before.now.side flags.new }
+    ensures gathered { IfSome result (AreGathered before.now levels.new flags.new) }
+    ensures less { IfSome result (λ next. 2 * count_unmet levels.new + next < 2 * count_unmet levels.old + depth) }
+    ensures rings { IfNone result (AreFlaggedOrOnRings before.now flags.new) }
     ensures deep { IfSome result (λ next. next ≤ depth + 1) }
     ensures levels { IfSome result (λ next. AreLevels before.now levels.new looked.new next) }
 {
@@ -197,6 +204,7 @@ pub(crate) fn flag_groups(
     requires none { AreOnNone (Marks before.now) before.now.side flags.old }
     ensures count { OnOk result (length flags.new ≡ before.now.side) }
     ensures none { OnOk result (AreOnNone (Marks before.now) before.now.side flags.new) }
+    ensures rings { OnOk result (AreFlaggedOrOnRings before.now flags.new) }
 {
     let side = before.side();
     let mut levels = values_of(alloc, flags, CLOSED)?;
