@@ -1,13 +1,10 @@
 -- The levels of a search back that gathers the numbers on one cycle into groups, which stand on a path from level 1 on.
-use Rattle.std.specs.Prelude.{◌≡◌, ◌≢◌, ℕ, ◌-◌, ◌<◌, ◌≤◌, ◌^◌, List, Bool, true, false, length, slice_index, slice_index_or, nat_eq, All, ◌⊎◌}
+use Rattle.std.specs.Prelude.{◌≡◌, ◌≢◌, ℕ, ◌<◌, ◌≤◌, List, Bool, true, false, length, slice_index, slice_index_or, nat_eq, All, ◌⊎◌}
 use Rattle.std.specs.List.{count_by}
+use Rattle.reading_order.specs.declared.groups.TheConstants.{CLOSED}
 use Rattle.reading_order.specs.declared.table.Table.{Table}
 use Rattle.reading_order.specs.Tables.{Marks}
 use Rattle.reading_order.specs.Cycles.{Leads}
-
--- the level of what is in a closed group
-abbrev pub closed_level : ℕ
-closed_level = 2 ^ 64 - 1
 
 -- none of the numbers below `upto` is before a number and stands lower
 abbrev pub IsNoneLower : Table → List ℕ → ℕ → ℕ → Type 0
@@ -20,8 +17,8 @@ pub record AreLevels (before : Table) (levels looked : List ℕ) (depth : ℕ) :
   pub low : (x : ℕ) → x < before.side → slice_index looked x ≤ before.side
   pub rise : (x : ℕ) → x < before.side → IsNoneLower before levels x (slice_index looked x)
   pub unmet : (x : ℕ) → x < before.side → slice_index levels x ≡ 0 → slice_index looked x ≡ 0
-  pub closed : (x : ℕ) → x < before.side → slice_index levels x ≡ closed_level → slice_index looked x ≡ before.side
-  pub last : (x : ℕ) → x < before.side → depth < slice_index levels x → slice_index levels x ≡ closed_level
+  pub closed : (x : ℕ) → x < before.side → slice_index levels x ≡ CLOSED → slice_index looked x ≡ before.side
+  pub last : (x : ℕ) → x < before.side → depth < slice_index levels x → slice_index levels x ≡ CLOSED
 
 -- all that is before the numbers at a level was looked at
 abbrev pub IsLookedWhole : Table → List ℕ → List ℕ → ℕ → Type 0
@@ -75,7 +72,7 @@ AreFlaggedOrOnRings before flags = (x : ℕ) → x < before.side → IsFlaggedOr
 -- what the groups on the path say, and those that are closed
 pub record AreGathered (before : Table) (levels : List ℕ) (flags : List Bool) (depth : ℕ) : Type 0 where
   pub chain : IsChained before levels depth
-  pub known : (x : ℕ) → x < before.side → slice_index levels x ≡ closed_level → IsFlaggedOrOnRing before flags x
+  pub known : (x : ℕ) → x < before.side → slice_index levels x ≡ CLOSED → IsFlaggedOrOnRing before flags x
 
 -- for each number at a level another one is there
 abbrev pub AreSeveralAt : List ℕ → ℕ → Type 0

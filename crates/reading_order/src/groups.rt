@@ -1,8 +1,9 @@
 //! Finds numbers that are on no cycle: a search back, depth first, that gathers numbers which are on one cycle into groups.
-ghost use Rattle.std.specs.Prelude.{◌≡◌, ℕ, ◌+◌, ◌*◌, ◌<◌, ◌≤◌, ◌^◌, length, Bool, true, false, slice_index, slice_index_or, IfOk, OnOk, IfSome, IfNone, MatchOption};
+ghost use Rattle.std.specs.Prelude.{◌≡◌, ℕ, ◌+◌, ◌*◌, ◌<◌, ◌≤◌, ◌^◌, length, Bool, true, false, slice_index, slice_index_or, IfOk, OnOk, IfSome, IfNone};
 ghost use Rattle.reading_order.specs.Tables.{Marks};
 ghost use Rattle.reading_order.specs.Cycles.{AreOnNone};
-ghost use Rattle.reading_order.specs.Groups.{AreLevels, IsNoneLower, IsBeforeGroup, IsChained, AreGathered, IsFlaggedOrOnRing, AreFlaggedOrOnRings, AreSeveralAt, count_unmet, AreMoved, IsFirstAt, IsNoneAt, IsLoneAt, IsMetNext, AreSettled, IsLookedWhole, AreClosed, IsValueOf};
+ghost use Rattle.reading_order.specs.Groups.{AreLevels, IsNoneLower, IsLookedWhole, IsBeforeGroup, IsMetNext, IsFirstAt, IsNoneAt, IsLoneAt, AreSeveralAt, AreMoved};
+ghost use Rattle.reading_order.specs.Groups.{AreSettled, IsChained, AreGathered, IsFlaggedOrOnRing, AreFlaggedOrOnRings, AreClosed, IsValueOf, count_unmet};
 
 use crate::table::Table;
 use layout_limits::OutOfMemory;
@@ -107,7 +108,8 @@ fn flag_lone(before: &Table, levels: &[usize], depth: usize, flags: &mut [bool])
     requires none { AreOnNone (Marks before.now) before.now.side flags.old }
     ensures count { length flags.new ≡ before.now.side }
     ensures none { AreOnNone (Marks before.now) before.now.side flags.new }
-    ensures grows { (x : ℕ) → x < before.now.side → slice_index_or flags.old x false ≡ true → slice_index_or flags.new x false ≡ true }
+    ensures grows { (x : ℕ) → x < before.now.side → slice_index_or flags.old x false ≡ true
+        → slice_index_or flags.new x false ≡ true }
     ensures rings { (x : ℕ) → x < before.now.side → slice_index levels.now x ≡ depth → IsFlaggedOrOnRing before.now flags.new x }
 {
     if let Some(number) = only_at(levels, depth) {
@@ -191,8 +193,9 @@ fn turn(
 /// The groups stand on a path, one at each level from 1 to the depth, and each is behind the one that follows it. A
 /// number that is before one of the last group comes next: it is a group of its own where it was not met yet, and joins
 /// all groups from its own to the last one where it is on the path. Where there is no such number, the last group has
-/// all numbers that are on cycles with its own. Each number is met once and leaves the path once, by a group that is
-/// joined or closed, and each costs some n steps for n numbers.
+/// all numbers that are on cycles with its own, and is closed. Each number is met once, and its group is joined to a lower
+/// one or closed once, so that 2*n turns are enough for n numbers; each takes some n steps, and all of them look at an
+/// entry of the table once.
 pub(crate) fn flag_groups(
     alloc: Global,
     before: &Table,
