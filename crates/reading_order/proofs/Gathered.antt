@@ -6,7 +6,7 @@ use Rattle.std.proofs.lemmas.List.Elements.{All-nil, All-cons, All-append}
 use Rattle.std.proofs.lemmas.List.Sums.{sum_by-set, sum_by-cons}
 use Rattle.reading_order.specs.declared.table.Table.{Table}
 use Rattle.reading_order.specs.Tables.{Marks}
-use Rattle.reading_order.specs.Groups.{AreLevels, AreMoved, IsMetNext, IsBeforeGroup, IsWalk, Reaches, IsFlaggedOrOnRing, AreFlaggedOrOnRings, AreGathered, IsValueOf, IsNoneAt, IsLoneAt, IsFirstAt, IsChained, AreSeveralAt, count_unmet}
+use Rattle.reading_order.specs.Groups.{AreLevels, AreMoved, IsMetNext, IsBeforeGroup, IsWalk, Reaches, IsFlaggedOrOnRing, AreFlaggedOrOnRings, AreGathered, IsValueOf, IsNoneAt, IsChained, AreSeveralAt, count_unmet}
 use Rattle.reading_order.proofs.Turns.{leads_join}
 use Rattle.reading_order.proofs.Gathering.{Stands, where_moved}
 
@@ -47,13 +47,6 @@ weight_of_some l h = cond-false (eqb 0 l) 1 0 (ne_eqb 0 l (λ e. absurd (omega (
 pub unmet_less : (levels : List ℕ) (k level : ℕ) → k < length levels → get_or levels k 0 ≡ 0 → 0 < level → count_unmet (set levels k level) + 1 ≡ count_unmet levels
 unmet_less levels k level low none some =
     omega (arith, sum_by-set weight levels k level 0 low, weight_of_none (get_or levels k 0) none, weight_of_some level some)
-
-pub unmet_none : (levels : List ℕ) → count_unmet levels ≡ 0 → (k : ℕ) → k < length levels → 0 < get_or levels k 0
-unmet_none levels all k low =
-    ⊎_elim
-    (λ h. let less = unmet_less levels k 1 low h (omega arith) in absurd (omega (arith, less, all)))
-    (λ ne. omega (arith, ne))
-    (cases_eq (get_or levels k 0) 0)
 
 pub unmet_at_most : (old new : List ℕ) → length new ≡ length old → ((k : ℕ) → k < length new → get_or new k 0 ≡ 0 → get_or old k 0 ≡ 0) → count_unmet new ≤ count_unmet old
 unmet_at_most [] [] count h = omega arith
@@ -182,28 +175,7 @@ pub gathered_at_last : (before : Table) (levels looked : List ℕ) (flags : List
 gathered_at_last before levels looked flags depth are gathered empty met x low =
     gathered.known x low (are.last x low (let ne : get_or levels x 0 ≢ 0 = met x (omega arith) (omega (arith, low, are.count)) in omega (arith, empty, ne)))
 
--- the numbers at a level, where there are several or none
-pub several_of_two : (levels : List ℕ) (level a b : ℕ) → a < length levels → b < length levels → a ≢ b → get_or levels a 0 ≡ level → get_or levels b 0 ≡ level → AreSeveralAt levels level
-several_of_two levels level a b a_low b_low ne a_at b_at x low at =
-    ⊎_elim
-    (λ same. (b, b_low, b_at, λ e. ne (sym same ∙ e)))
-    (λ apart. (a, a_low, a_at, apart))
-    (cases_eq x a)
-
-pub several_of_none : (levels : List ℕ) (level : ℕ) → IsNoneAt levels level 0 → AreSeveralAt levels level
-several_of_none levels level none x low at = absurd (none x (omega arith) low at)
-
-pub lone_first : (levels : List ℕ) (level x : ℕ) → IsFirstAt levels level 0 x → IsNoneAt levels level (x + 1) → IsLoneAt levels level x
-lone_first levels level x is none = record {
-  low = is.low;
-  at = is.at;
-  only = λ y low at. ⊎_elim
-      (λ under. absurd (is.first y (omega arith) under at))
-      (λ over. ⊎_elim (λ same. same) (λ ne. absurd (none y (omega (arith, over, ne)) low at)) (cases_eq y x))
-      (cases_lt y x);
-}
-
--- the members of a closed group are on rings, but for one that is flagged
+-- the members of a closed group are on rings where there are several
 module _ (before : Table) (levels : List ℕ) (depth : ℕ) (count : length levels ≡ before.side) where
   pub rings_of_several : (flags : List Bool) → 0 < depth → IsChained before levels depth → AreSeveralAt levels depth → (x : ℕ) → x < before.side → get_or levels x 0 ≡ depth → IsFlaggedOrOnRing before flags x
   rings_of_several flags some chain several x low at =
@@ -212,22 +184,3 @@ module _ (before : Table) (levels : List ℕ) (depth : ℕ) (count : length leve
       inr (ring_of_two (Marks before) before.side x s.0 y_low s.3
       (chain s.0 x y_low low (omega (arith, some, s.2)) (omega (arith, s.2, at)) (omega (arith, at)))
       (chain x s.0 low y_low (omega (arith, some, at)) (omega (arith, s.2, at)) (omega (arith, s.2))))
-
-  pub rings_of_flagged : (flags : List Bool) (n : ℕ) → length flags ≡ before.side → IsLoneAt levels depth n → (x : ℕ) → x < before.side → get_or levels x 0 ≡ depth → IsFlaggedOrOnRing before (set flags n true) x
-  rings_of_flagged flags n size lone x low at =
-      let same : x ≡ n = lone.only x (omega (arith, low, count)) at in
-      let P : ℕ → Type 0 = λ z. get_or (set flags n true) z false ≡ true in
-      inl (subst P (sym same) (get_or-set_same flags n true false (omega (arith, size, lone.low, count))))
-
-  pub rings_of_itself : (flags : List Bool) (n : ℕ) → IsLoneAt levels depth n → Marks before n n → (x : ℕ) → x < before.side → get_or levels x 0 ≡ depth → IsFlaggedOrOnRing before flags x
-  rings_of_itself flags n lone marks x low at =
-      let same : x ≡ n = lone.only x (omega (arith, low, count)) at in
-      let P : ℕ → Type 0 = λ z. IsWalk (Marks before) before.side z z in
-      inr (subst P (sym same) (walk_step (Marks before) before.side n n marks))
-
-pub flags_grow : (flags : List Bool) (n x : ℕ) → n < length flags → get_or flags x false ≡ true → get_or (set flags n true) x false ≡ true
-flags_grow flags n x low h =
-    ⊎_elim
-    (λ same. let P : ℕ → Type 0 = λ z. get_or (set flags n true) z false ≡ true in subst P (sym same) (get_or-set_same flags n true false low))
-    (λ ne. get_or-set_other flags n x true false ne ∙ h)
-    (cases_eq x n)

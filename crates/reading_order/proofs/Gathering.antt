@@ -1,5 +1,5 @@
 -- What each turn of the search keeps, and what is flagged.
-use Rattle.std.proofs.Common.{◌≡◌, ◌≢◌, ℕ, ◌+◌, ◌-◌, ◌<◌, ◌≤◌, ◌^◌, List, [], ◌∷◌, Bool, true, false, length, get_or, set, arith, sym, ◌∙◌, subst, ◌⊎◌, inl, inr, ⊎_elim, All}
+use Rattle.std.proofs.Common.{◌≡◌, ◌≢◌, ℕ, ◌-◌, ◌<◌, ◌≤◌, ◌^◌, List, [], ◌∷◌, Bool, true, false, length, get_or, set, arith, sym, ◌∙◌, subst, ◌⊎◌, inl, inr, ⊎_elim, All}
 use Rattle.std.proofs.lemmas.Bool.{cases_lt, cases_eq, cases_Bool}
 use Rattle.std.proofs.lemmas.List.{get_or-set_same, get_or-set_other, length-set}
 use Rattle.std.proofs.lemmas.List.Elements.{All-head, All-tail}
@@ -53,15 +53,6 @@ Stands old new least most level x =
     ⊎ ((least ≤ get_or old x 0) × (get_or old x 0 ≤ most) × (get_or new x 0 ≡ level))
 
 module _ (before : Table) (levels looked : List ℕ) (depth : ℕ) (are : AreLevels before levels looked depth) where
-  -- the groups are settled from the last one on where all that is before its members was looked at
-  pub settled_from : IsLookedWhole before levels looked depth → AreSettled before levels depth
-  settled_from whole x y x_low y_low high marks =
-      let all : get_or looked x 0 ≡ before.side = ⊎_elim
-      (λ same. whole x x_low same)
-      (λ ne. are.closed x x_low (are.last x x_low (omega (arith, high, ne))))
-      (cases_eq (get_or levels x 0) depth) in
-      are.rise x x_low y (omega (arith, y_low, all)) marks
-
   -- one more was looked at of what is before a number of a group
   pub levels_looked : (k p : ℕ) → k < before.side → 0 < get_or levels k 0 → get_or levels k 0 < 2 ^ 64 - 1 → p ≤ before.side → IsNoneLower before levels k p → AreLevels before levels (set looked k p) depth
   levels_looked k p k_low some under p_low none =
@@ -93,41 +84,6 @@ module _ (before : Table) (levels looked : List ℕ) (depth : ℕ) (are : AreLev
         last = are.last;
       }
 
-  -- a number that was not met becomes a group of its own
-  pub levels_met : (e : ℕ) → e < before.side → get_or levels e 0 ≡ 0 → depth + 1 < 2 ^ 64 - 1 → AreLevels before (set levels e (depth + 1)) looked (depth + 1)
-  levels_met e e_low new deep =
-      let here : get_or (set levels e (depth + 1)) e 0 ≡ depth + 1 = get_or-set_same levels e (depth + 1) 0 (omega (arith, are.count, e_low)) in
-      let there : (x : ℕ) → x ≢ e → get_or (set levels e (depth + 1)) x 0 ≡ get_or levels x 0 = λ x ne. get_or-set_other levels e x (depth + 1) 0 ne in
-      let at_e : (x : ℕ) → x ≡ e → get_or (set levels e (depth + 1)) x 0 ≡ depth + 1 = λ x same. let P : ℕ → Type 0 = λ z. get_or (set levels e (depth + 1)) z 0 ≡ depth + 1 in subst P (sym same) here in
-      let P : ℕ → Type 0 = λ z. get_or looked z 0 ≡ 0 in
-      let fresh : get_or looked e 0 ≡ 0 = are.unmet e e_low new in
-      let Q : ℕ → Type 0 = λ z. get_or levels z 0 ≡ 0 in
-      record {
-        count = length-set levels e (depth + 1) ∙ are.count;
-        looked_count = are.looked_count;
-        low = are.low;
-        rise = λ x low y less marks. ⊎_elim
-            (λ same. let none : get_or looked x 0 ≡ 0 = subst P (sym same) fresh in absurd (omega (arith, none, less)))
-            (λ ne. let old = are.rise x low y less marks in
-            ⊎_elim
-            (λ y_same. let zero_y : get_or levels y 0 ≡ 0 = subst Q (sym y_same) new in omega (arith, there x ne, old, zero_y))
-            (λ y_ne. omega (arith, there x ne, there y y_ne, old))
-            (cases_eq y e))
-            (cases_eq x e);
-        unmet = λ x low h. ⊎_elim
-            (λ same. absurd (omega (arith, at_e x same, h)))
-            (λ ne. are.unmet x low (sym (there x ne) ∙ h))
-            (cases_eq x e);
-        closed = λ x low h. ⊎_elim
-            (λ same. absurd (omega (arith, at_e x same, h, deep)))
-            (λ ne. are.closed x low (sym (there x ne) ∙ h))
-            (cases_eq x e);
-        last = λ x low h. ⊎_elim
-            (λ same. absurd (omega (arith, at_e x same, h)))
-            (λ ne. there x ne ∙ are.last x low (omega (arith, there x ne, h)))
-            (cases_eq x e);
-      }
-
   module _ (new : List ℕ) (least most level : ℕ) (moved : AreMoved levels new least most level before.side) where
     pub where_moved : (x : ℕ) → x < before.side → Stands levels new least most level x
     where_moved x low =
@@ -138,44 +94,6 @@ module _ (before : Table) (levels looked : List ℕ) (depth : ℕ) (are : AreLev
         (λ upto. inr (inr (from, upto, moved.moved x low from upto)))
         (cases_lt most (get_or levels x 0)))
         (cases_lt (get_or levels x 0) least)
-
-  -- all groups from one to the last one join
-  pub levels_joined : (new : List ℕ) (level : ℕ) → 0 < level → level < depth → depth < 2 ^ 64 - 1 → AreMoved levels new level depth level before.side → AreLevels before new looked level
-  levels_joined new level some under deep moved =
-      let at = where_moved new level depth level moved in
-      record {
-        count = moved.count ∙ are.count;
-        looked_count = are.looked_count;
-        low = are.low;
-        rise = λ x low y less marks.
-            let y_low : y < before.side = omega (arith, less, are.low x low) in
-            let old = are.rise x low y less marks in
-            joined_rise x y (at x low) (at y y_low) old;
-        unmet = λ x low h. ⊎_elim
-            (λ p. are.unmet x low (sym p.1 ∙ h))
-            (λ r. ⊎_elim (λ p. absurd (omega (arith, p.0, p.1, h))) (λ p. absurd (omega (arith, p.2, h, some))) r)
-            (at x low);
-        closed = λ x low h. ⊎_elim
-            (λ p. are.closed x low (sym p.1 ∙ h))
-            (λ r. ⊎_elim (λ p. are.closed x low (sym p.1 ∙ h)) (λ p. absurd (omega (arith, p.2, h, under, deep))) r)
-            (at x low);
-        last = λ x low h. ⊎_elim
-            (λ p. absurd (omega (arith, p.0, p.1, h)))
-            (λ r. ⊎_elim (λ p. p.1 ∙ are.last x low p.0) (λ p. absurd (omega (arith, p.2, h))) r)
-            (at x low);
-      }
-    where
-      joined_rise : (x y : ℕ)
-          → Stands levels new level depth level x → Stands levels new level depth level y → get_or levels x 0 ≤ get_or levels y 0 → get_or new x 0 ≤ get_or new y 0
-      joined_rise x y (inl a) (inl b) old = omega (arith, a.1, b.1, old)
-      joined_rise x y (inl a) (inr (inl b)) old = omega (arith, a.1, b.1, old)
-      joined_rise x y (inl a) (inr (inr b)) old = omega (arith, a.0, a.1, b.2)
-      joined_rise x y (inr (inl a)) (inl b) old = omega (arith, a.1, b.1, old)
-      joined_rise x y (inr (inl a)) (inr (inl b)) old = omega (arith, a.1, b.1, old)
-      joined_rise x y (inr (inl a)) (inr (inr b)) old = absurd (omega (arith, a.0, b.1, old))
-      joined_rise x y (inr (inr a)) (inl b) old = absurd (omega (arith, a.0, b.0, old))
-      joined_rise x y (inr (inr a)) (inr (inl b)) old = omega (arith, a.2, b.1, a.0, old)
-      joined_rise x y (inr (inr a)) (inr (inr b)) old = omega (arith, a.2, b.2)
 
   -- the last group is closed
   pub levels_closed : (new : List ℕ) → 0 < depth → depth < 2 ^ 64 - 1 → IsLookedWhole before levels looked depth → AreMoved levels new depth depth (2 ^ 64 - 1) before.side → AreLevels before new looked (depth - 1)
