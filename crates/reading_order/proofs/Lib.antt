@@ -8,6 +8,9 @@ pub mod Taking
 pub mod Taken
 pub mod Waves
 pub mod Turns
+pub mod Gathering
+pub mod Gathered
+pub mod Shortening
 pub mod Agreeing
 pub mod Answering
 pub mod Rounds

@@ -10,7 +10,7 @@ use Rattle.reading_order.specs.Cycles.{Leads, IsCycle}
 use Rattle.reading_order.specs.Fronts.{IsFront, IsTakenOrBlocked, IsGreedy}
 use Rattle.reading_order.proofs.Members.{IsIn, IsOut, place_of, in_at, in_or_out, below_whole, distinct_whole, length_whole}
 
-out_of_all : (u : ℕ) (xs : List ℕ) → IsOut u xs → AllByRecursion (λ y. eqb u y ≡ false) xs
+pub out_of_all : (u : ℕ) (xs : List ℕ) → IsOut u xs → AllByRecursion (λ y. eqb u y ≡ false) xs
 out_of_all u [] h = tt
 out_of_all u (x ∷ xs) h = let parts = or_parts (eqb u x) (list_any (eqb u) xs) h in (parts.0, out_of_all u xs parts.1)
 

@@ -6,7 +6,7 @@ use Rattle.std.proofs.lemmas.List.Elements.{All-head, All-tail}
 use Rattle.std.proofs.lemmas.Map.Keys.{apart_from_distinct}
 use Rattle.reading_order.specs.Cycles.{Leads, StartsNoCycle}
 use Rattle.reading_order.specs.Fronts.{IsFront, IsGreedy}
-use Rattle.reading_order.proofs.Members.{IsIn, place_of, distinct_whole}
+use Rattle.reading_order.proofs.Members.{IsIn, place_of, in_at, distinct_whole}
 
 module _ (before : ℕ → ℕ → Type 0) (limit : ℕ) (taken left : List ℕ) (front : IsFront before limit taken left) where
   -- what is before a number that was taken stands at an earlier place
@@ -40,3 +40,10 @@ module _ (before : ℕ → ℕ → Type 0) (limit : ℕ) (taken left : List ℕ)
 
 pub taken_starts_none : (before : ℕ → ℕ → Type 0) (limit : ℕ) (taken : List ℕ) → IsGreedy before limit taken → (x : ℕ) → IsIn x taken → StartsNoCycle before limit x
 taken_starts_none before limit taken greedy x there = starts_none before limit taken greedy.left greedy.front x there
+
+-- what is before a number that was taken was taken too
+pub taken_before : (before : ℕ → ℕ → Type 0) (limit : ℕ) (taken : List ℕ) → IsGreedy before limit taken → (x y : ℕ) → y < limit → IsIn x taken → before y x → IsIn y taken
+taken_before before limit taken greedy x y low there h =
+    let p = place_of x taken there in
+    let r = earlier_place before limit taken greedy.left greedy.front y x p.0 low p.1 p.2 h in
+    in_at y taken r.0 (omega (arith, r.1, p.1)) r.2

@@ -1,12 +1,12 @@
 -- A cycle can start at any of its members.
-use Rattle.std.proofs.Common.{◌≡◌, ℕ, ◌+◌, ◌<◌, ◌≤◌, List, [], ◌∷◌, ◌++◌, Bool, true, false, get_or, set, take, drop, eqb, refl, sym, ◌∙◌, subst, ⊎_elim, All}
+use Rattle.std.proofs.Common.{◌≡◌, ℕ, ◌+◌, ◌<◌, ◌≤◌, List, [], ◌∷◌, ◌++◌, get_or, take, drop, eqb, sym, subst, ⊎_elim, All}
 use Rattle.std.specs.List.Sorted.{IsPermutation}
-use Rattle.std.proofs.lemmas.Bool.{cases_lt, cases_eq}
-use Rattle.std.proofs.lemmas.List.{take-append-drop, drop_more, append-nil, get_or-set_other}
+use Rattle.std.proofs.lemmas.Bool.{cases_lt}
+use Rattle.std.proofs.lemmas.List.{take-append-drop, drop_more, append-nil}
 use Rattle.std.proofs.lemmas.List.Sorted.{IsPermutation-append_comm, All-permutation}
 use Rattle.std.proofs.lemmas.Map.Keys.{IsDistinct-IsPermutation}
-use Rattle.std.proofs.lemmas.List.Elements.{All-head, All-tail}
-use Rattle.reading_order.specs.Cycles.{Leads, IsCycle, StartsNoCycle, AreOnNone}
+use Rattle.std.proofs.lemmas.List.Elements.{All-head}
+use Rattle.reading_order.specs.Cycles.{Leads, IsCycle}
 use Rattle.reading_order.proofs.Members.{eqb_flips}
 
 module _ (before : ℕ → ℕ → Type 0) (limit : ℕ) where
@@ -14,7 +14,7 @@ module _ (before : ℕ → ℕ → Type 0) (limit : ℕ) where
   leads_split x [] z zs y h = (h.0, h.1)
   leads_split x (w ∷ ws) z zs y h = let r = leads_split w ws z zs y h.1 in ((h.0, r.0), r.1)
 
-  leads_join : (x : ℕ) (xs : List ℕ) (z : ℕ) (zs : List ℕ) (y : ℕ) → Leads before x xs z → Leads before z zs y → Leads before x (xs ++ z ∷ zs) y
+  pub leads_join : (x : ℕ) (xs : List ℕ) (z : ℕ) (zs : List ℕ) (y : ℕ) → Leads before x xs z → Leads before z zs y → Leads before x (xs ++ z ∷ zs) y
   leads_join x [] z zs y first second = (first, second)
   leads_join x (w ∷ ws) z zs y first second = (first.0, leads_join w ws z zs y first.1 second)
 
@@ -45,23 +45,3 @@ module _ (before : ℕ → ℕ → Type 0) (limit : ℕ) where
   pub start_low : (cycle : List ℕ) → IsCycle before limit cycle → get_or cycle 0 0 < limit
   start_low [] is = absurd is.ring
   start_low (x ∷ xs) is = All-head (λ z. z < limit) x xs is.within
-
--- A number is on no cycle where all that it is before are on none.
-module _ (before : ℕ → ℕ → Type 0) (limit : ℕ) (flags : List Bool) (none : AreOnNone before limit flags) where
-  leads_to_none : (x : ℕ) → ((y : ℕ) → y < limit → before x y → get_or flags y false ≡ true) → StartsNoCycle before limit x
-  leads_to_none x all [] is same = is.ring
-  leads_to_none x all (z ∷ []) is same =
-      let low : x < limit = let P : ℕ → Type 0 = λ w. w < limit in subst P same (All-head (λ w. w < limit) z [] is.within) in
-      let P : ℕ → Type 0 = λ w. before w w in
-      none x low (all x low (subst P same is.ring)) (z ∷ []) is same
-  leads_to_none x all (z ∷ y ∷ ys) is same =
-      let low : y < limit = All-head (λ w. w < limit) y ys (All-tail (λ w. w < limit) z (y ∷ ys) is.within) in
-      let P : ℕ → Type 0 = λ w. before w y in
-      none y low (all y low (subst P same is.ring.0)) ((y ∷ ys) ++ z ∷ []) (turned before limit (z ∷ []) y ys is) refl
-
-  pub flagged_more : (x : ℕ) → ((y : ℕ) → y < limit → before x y → get_or flags y false ≡ true) → AreOnNone before limit (set flags x true)
-  flagged_more x all z low h =
-      ⊎_elim
-      (λ same. let P : ℕ → Type 0 = λ w. StartsNoCycle before limit w in subst P (sym same) (leads_to_none x all))
-      (λ ne. none z low (sym (get_or-set_other flags x z true false ne) ∙ h))
-      (cases_eq z x)

@@ -8,6 +8,7 @@ pub mod Tables
 pub mod Looking
 pub mod Steps
 pub mod Waves
+pub mod Groups
 pub mod Shown
 pub mod Answers
 pub mod Areas

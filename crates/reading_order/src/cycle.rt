@@ -1,10 +1,11 @@
 //! The least cycle: from the least number on any cycle, a shortest one, and the first of these in a dictionary.
-ghost use Rattle.std.specs.Prelude.{◌≡◌, ℕ, ◌<◌, ◌≤◌, ◌^◌, List, length, IfOk, All};
+ghost use Rattle.std.specs.Prelude.{◌≡◌, ℕ, ◌<◌, ◌≤◌, ◌^◌, List, length, true, false, slice_index_or, IfOk, All};
 ghost use Rattle.reading_order.specs.Tables.{Marks};
 ghost use Rattle.reading_order.specs.Steps.{AreSteps, AreAtLeast, HasNext, IsLeastNext};
 ghost use Rattle.reading_order.specs.Cycles.{IsCycle, IsLeastCycle, AreOnNone};
+ghost use Rattle.reading_order.specs.Groups.{AreClosed};
 
-use crate::ends::flag_ends;
+use crate::groups::flag_groups;
 use crate::steps::steps_to;
 use crate::table::Table;
 use layout_geom::Numbers;
@@ -70,34 +71,22 @@ fn cycle_through(
     Ok(cycle)
 }
 
-/// The first shortest cycle from the least number on any cycle. The numbers that are flagged are on none.
-fn least_cycle_among(
-    alloc: Global,
-    before: &Table,
-    on_none: &[bool],
-) -> Result<Numbers, OutOfMemory>
-    requires small { before.now.side < 2 ^ 32 }
-    requires count { length on_none.now ≡ before.now.side }
-    requires none { AreOnNone (Marks before.now) before.now.side on_none.now }
-    requires cycle { (cycle : List ℕ) × IsCycle (Marks before.now) before.now.side cycle }
-    ensures { IfOk result (IsLeastCycle (Marks before.now) before.now.side) }
+/// The least number that is not flagged.
+fn least_unflagged(flags: &[bool]) -> usize
+    requires some { (x : ℕ) × (x < length flags.now) × (slice_index_or flags.now x false ≡ false) }
+    ensures low { result < length flags.now }
+    ensures off { slice_index_or flags.now result false ≡ false }
+    ensures least { (x : ℕ) → x < result → slice_index_or flags.now x false ≡ true }
 {
-    for start in 0..before.side() {
-        if !on_none[start] {
-            let steps = steps_to(alloc, before, start)?;
-            let whole = least_steps(before, start, &steps);
-            if whole < before.side() {
-                return cycle_through(alloc, before, start, &steps, whole);
-            }
+    for number in 0..flags.len() {
+        if !flags[number] {
+            return number;
         }
     }
     unreachable!()
 }
 
-/// The least cycle, where the numbers that were taken are on none.
-///
-/// A search back from each start takes up to n*n steps for n numbers, so most of the starts that fail are passed over:
-/// those behind no cycle, which were taken, and those before none.
+/// The least cycle, where the numbers that were taken are on none: it starts at the least number that is on any.
 pub(crate) fn least_cycle(
     alloc: Global,
     before: &Table,
@@ -105,11 +94,15 @@ pub(crate) fn least_cycle(
 ) -> Result<Numbers, OutOfMemory>
     requires small { before.now.side < 2 ^ 32 }
     requires count { length taken.items ≡ before.now.side }
+    requires closed { AreClosed before.now taken.items }
     requires none { AreOnNone (Marks before.now) before.now.side taken.items }
     requires cycle { (cycle : List ℕ) × IsCycle (Marks before.now) before.now.side cycle }
     ensures { IfOk result (IsLeastCycle (Marks before.now) before.now.side) }
 {
     let mut on_none = taken;
-    flag_ends(before, &mut on_none);
-    least_cycle_among(alloc, before, &on_none)
+    flag_groups(alloc, before, &mut on_none)?;
+    let start = least_unflagged(&on_none);
+    let steps = steps_to(alloc, before, start)?;
+    let whole = least_steps(before, start, &steps);
+    cycle_through(alloc, before, start, &steps, whole)
 }

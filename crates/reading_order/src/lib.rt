@@ -3,8 +3,8 @@
 
 mod areas;
 mod cycle;
-mod ends;
 mod front;
+mod groups;
 mod law;
 mod order;
 mod reach;

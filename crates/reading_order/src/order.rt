@@ -23,9 +23,8 @@ use std::alloc::Global;
 /// numbers in which each is before the next and the last is before the first: it starts at the least number on any
 /// cycle, is a shortest one from there, and the lexicographically least of these.
 ///
-/// For n lines this takes some n*n steps and n*n/8 bytes: for 20,000 lines a few seconds and 51 MB. Only where there are
-/// several cycles does it take more, up to n*n steps again for each line that stands behind one cycle and before another
-/// and has a number below all that are on cycles.
+/// For n lines this takes some n*n steps and n*n/8 bytes, however many cycles there are: for 20,000 lines a few seconds and
+/// 51 MB.
 ///
 /// # Errors
 ///

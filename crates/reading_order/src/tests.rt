@@ -282,16 +282,18 @@ fn page() -> Rect {
     }
 }
 
-// As many lines as rows in each of the columns, 16 columns of pixels each, one row of pixels between two lines.
-fn lines_in_columns(alloc: Global, columns: u16, rows: u16) -> Result<Rects, OutOfMemory>
+// As many lines as rows in each of the columns, 16 columns of pixels each, from a top row on, one row of pixels between
+// two lines.
+fn lines_in_columns(alloc: Global, columns: u16, rows: u16, top: u16) -> Result<Rects, OutOfMemory>
     requires columns { columns ≤ 100 }
     requires rows { rows ≤ 4000 }
+    requires top { top ≤ 100 }
 {
     let mut lines = Rects::new(alloc);
     for row in 0..rows {
         for column in 0..columns {
             let x0 = 20 * column;
-            let y0 = 2 * row;
+            let y0 = top + 2 * row;
             if let Some(line) = Rect::new(x0, y0, x0 + 16, y0 + 1) {
                 lines.push(line)?;
             }
@@ -341,7 +343,7 @@ fn lines_fall_into_areas(rt: HostRuntime) -> Result<(), Fail> {
 
 #[test]
 fn two_columns_of_a_thousand_lines(rt: HostRuntime) -> Result<(), Fail> {
-    let lines = lines_in_columns(rt.alloc(), 2, 1000)?;
+    let lines = lines_in_columns(rt.alloc(), 2, 1000, 0)?;
     match order_of(rt.alloc(), &lines)? {
         Order::Topological(order) => {
             assert!(rt; order.len() == 2000);
@@ -363,8 +365,21 @@ fn two_columns_of_a_thousand_lines(rt: HostRuntime) -> Result<(), Fail> {
 
 #[test]
 fn cycle_behind_two_thousand_lines(rt: HostRuntime) -> Result<(), Fail> {
-    let mut lines = lines_in_columns(rt.alloc(), 2, 1000)?;
+    let mut lines = lines_in_columns(rt.alloc(), 2, 1000, 0)?;
     push_cycle(&mut lines, 2000)?;
+    match order_of(rt.alloc(), &lines)? {
+        Order::Topological(_) => assert!(rt; false),
+        Order::Cycle(cycle) => assert!(rt; cycle.as_slice() == [2000, 2001, 2002, 2003].as_slice()),
+    }
+    Ok(())
+}
+
+// Each line of the column is behind the first cycle and before the second, and has a number below all that are on them.
+#[test]
+fn two_thousand_lines_between_two_cycles(rt: HostRuntime) -> Result<(), Fail> {
+    let mut lines = lines_in_columns(rt.alloc(), 1, 2000, 8)?;
+    push_cycle(&mut lines, 4008)?;
+    push_cycle(&mut lines, 0)?;
     match order_of(rt.alloc(), &lines)? {
         Order::Topological(_) => assert!(rt; false),
         Order::Cycle(cycle) => assert!(rt; cycle.as_slice() == [2000, 2001, 2002, 2003].as_slice()),

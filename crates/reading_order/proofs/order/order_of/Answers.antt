@@ -1,7 +1,7 @@
 use Rattle.std.proofs.Common.{◌≡◌, length, arith, sym, ◌∙◌}
 use Rattle.reading_order.specs.Shown.{IsShown}
 use Rattle.reading_order.specs.Tables.{Marks}
-use Rattle.reading_order.proofs.Taken.{taken_starts_none}
+use Rattle.reading_order.proofs.Taken.{taken_starts_none, taken_before}
 use Rattle.reading_order.proofs.Answering.{topological, cyclic, least}
 use Rattle.reading_order.proofs.order.order_of.Goals as goal
 
@@ -27,6 +27,9 @@ least_cycle-requires c =
     record {
       small = omega (arith, side, c.len-count.ensures.value, c.len-count.ensures.small);
       count = c.in_ok-order.ensures.count;
+      closed = λ x y low y_low taken marks.
+          c.in_ok-order.ensures.flags y y_low
+          ∙ taken_before (Marks table) table.side front.order c.in_ok-order.ensures.greedy x y y_low (sym (c.in_ok-order.ensures.flags x low) ∙ taken) marks;
       none = λ x low taken. taken_starts_none (Marks table) table.side front.order c.in_ok-order.ensures.greedy x (sym (c.in_ok-order.ensures.flags x low) ∙ taken);
       cycle = cyclic lines table side shown front.order c.in_ok-order.ensures.greedy (λ e. c.if-len-count.false (omega (arith, e, c.len.ensures.value, c.len-count.ensures.value)));
     }
