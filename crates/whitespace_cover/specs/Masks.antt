@@ -11,7 +11,8 @@ from_end obstacles k d = slice_index_or obstacles (length obstacles - 1 - k) d
 
 -- where a bit is clear, the rectangle does not overlap the obstacle of the bit
 abbrev pub IsMask : List Rect → Rect → ℕ → Type 0
-IsMask obstacles r mask = (k : ℕ) (d : Rect) → k < MASKED → k < length obstacles → bit_at mask k ≡ 0 → Overlaps r (from_end obstacles k d) → ⊥
+IsMask obstacles r mask = (k : ℕ) (d : Rect) → k < MASKED → k < length obstacles → bit_at mask k ≡ 0
+    → Overlaps r (from_end obstacles k d) → ⊥
 
 -- the rectangle overlaps none of the last obstacles
 abbrev pub IsClearOfLast : ℕ → Rect → List Rect → Type 0

@@ -17,7 +17,7 @@ use std::alloc::Global;
 pub struct Region {
     /// The rectangle that is searched.
     pub rect: Rect,
-    /// Where bit k is clear, the k-th obstacle from the end, counted from 0, does not overlap the rectangle.
+    /// In a node that fits: where bit k is clear, the k-th obstacle from the end, counted from 0, does not overlap it.
     pub mask: u64,
 }
 

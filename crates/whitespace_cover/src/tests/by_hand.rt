@@ -138,15 +138,15 @@ fn cut_the_page(
     let Some(whole) = lease(white, frontier) else {
         panic!(rt; "nothing is open");
     };
-    assert_eq!(rt; whole.number, 0);
-    assert_eq!(rt; whole.node.shape, shape_of(0, 0, 16, 16));
+    assert!(rt; whole.number == 0 && whole.node.shape == shape_of(0, 0, 16, 16));
     let Some(()) = look_idle(white, frontier) else {
         panic!(rt; "not idle");
     };
     let nodes = split(rt, alloc, white, &whole.node)?;
-    assert_eq!(rt; nodes.len(), 2);
-    assert_eq!(rt; nodes[0].shape, shape_of(3, 0, 16, 16));
-    assert_eq!(rt; nodes[1].shape, shape_of(0, 3, 16, 16));
+    assert!(rt; nodes.len() == 2);
+    assert!(rt;
+        nodes[0].shape == shape_of(3, 0, 16, 16) && nodes[1].shape == shape_of(0, 3, 16, 16)
+    );
     finish(white, frontier, whole, nodes, 0)
 }
 
@@ -163,8 +163,8 @@ fn look_at_the_right(
     let Some(right) = lease(white, frontier) else {
         panic!(rt; "nothing is open");
     };
-    assert_eq!(rt; right.node.shape, shape_of(3, 0, 16, 16));
-    assert_eq!(rt; settle(rt, alloc, white, &right.node)?, RIGHT);
+    assert!(rt; right.node.shape == shape_of(3, 0, 16, 16));
+    assert!(rt; settle(rt, alloc, white, &right.node)? == RIGHT);
     reopen(white, frontier, right);
     Ok(())
 }
@@ -183,7 +183,7 @@ fn end_a_part(
     let Some(part) = lease(white, frontier) else {
         panic!(rt; "nothing is open");
     };
-    assert_eq!(rt; part.node.shape, shape);
+    assert!(rt; part.node.shape == shape);
     finish(white, frontier, part, Vec::new(alloc), RIGHT)
 }
 
@@ -196,7 +196,7 @@ fn frontier_by_hand(rt: HostRuntime) -> Result<(), Fail> {
     };
     let mut frontier = begin(alloc, &white, root)?;
     cut_the_page(&rt, alloc, &white, &mut frontier)?;
-    assert_eq!(rt; (frontier.waiting(), frontier.out()), (2, 0));
+    assert!(rt; frontier.waiting() == 2 && frontier.out() == 0);
     look_at_the_right(&rt, alloc, &white, &mut frontier)?;
     end_a_part(&rt, alloc, &white, &mut frontier, shape_of(3, 0, 16, 16))?;
     end_a_part(&rt, alloc, &white, &mut frontier, shape_of(0, 3, 16, 16))?;
