@@ -3,6 +3,7 @@ pub mod Admissible
 pub mod Bars
 pub mod Cover
 pub mod Index
+pub mod Masks
 pub mod Problem
 pub mod Regions
 pub mod WhiteLaws

@@ -9,7 +9,9 @@ use Rattle.box_search.specs.declared.space.Node.{Node}
 use Rattle.box_search.specs.declared.space.Step.{Step}
 use Rattle.box_search.specs.declared.space.Step.TheVariants.{Settled, Split}
 use Rattle.box_search.specs.Problems.{OfProblem}
+use Rattle.whitespace_cover.specs.declared.region.Region.{Region}
 use Rattle.whitespace_cover.specs.Admissible.{IsRoomy}
+use Rattle.whitespace_cover.specs.Masks.{IsMask}
 use Rattle.whitespace_cover.specs.Problem.{WhiteProblem, white_numbers}
 
 -- the ranges of the columns and of the rows, and a range of one number
@@ -30,21 +32,22 @@ pub record RectLiesIn (key : ℕ) (shape : Shape) : Type 0 where
   pub within : IsRectWithin shape rect
 
 -- the node has the rectangle's shape, and its key as the bound
-pub record IsNodeOf (r : Rect) (node : Node Rect) : Type 0 where
+pub record IsNodeOf (r : Rect) (node : Node Region) : Type 0 where
   pub shape : node.shape ≡ shape_of r
   pub bound : node.bound ≡ rect_key r
 
 -- the node is that of the rectangle that it carries
-abbrev pub IsRectNode : Node Rect → Type 0
-IsRectNode node = IsNodeOf node.work node
+abbrev pub IsRectNode : Node Region → Type 0
+IsRectNode node = IsNodeOf node.work.rect node
 
--- and this rectangle lies in the page and has at least the least size
-pub record IsWhiteNode (node : Node Rect) (problem : WhiteProblem) : Type 0 where
+-- and this rectangle lies in the page, has at least the least size, and overlaps no obstacle that its mask leaves out
+pub record IsWhiteNode (node : Node Region) (problem : WhiteProblem) : Type 0 where
   pub outline : IsRectNode node
-  pub inside : Encloses problem.page node.work
-  pub roomy : IsRoomy problem.least node.work
+  pub inside : Encloses problem.page node.work.rect
+  pub roomy : IsRoomy problem.least node.work.rect
+  pub mask : IsMask problem.obstacles node.work.rect node.work.mask
 
-abbrev pub FitsWhite : List ℤ → Node Rect → Type 0
+abbrev pub FitsWhite : List ℤ → Node Region → Type 0
 FitsWhite numbers node = OfProblem white_numbers (IsWhiteNode node) numbers
 
 -- the part, where it is there and has at least the least size
@@ -56,7 +59,7 @@ abbrev pub roomy_parts : ℕ → List (Option Rect) → List Rect
 roomy_parts least parts = filter_map (roomy_part least) parts
 
 -- the nodes are those of the roomy parts round an obstacle that overlaps the rectangle
-pub record IsPivotSplit (problem : WhiteProblem) (r : Rect) (nodes : List (Node Rect)) : Type 0 where
+pub record IsPivotSplit (problem : WhiteProblem) (r : Rect) (nodes : List (Node Region)) : Type 0 where
   pub pivot : Rect
   pub parts : List (Option Rect)
   pub present : Contains problem.obstacles pivot
@@ -65,6 +68,6 @@ pub record IsPivotSplit (problem : WhiteProblem) (r : Rect) (nodes : List (Node 
   pub outlines : AllZip IsNodeOf (roomy_parts problem.least parts) nodes
 
 -- settled exactly where no obstacle overlaps the rectangle, and else split at a pivot
-abbrev pub IsWhiteStep : WhiteProblem → Rect → Step Rect → Type 0
-IsWhiteStep problem r (Settled key) = IsClear r problem.obstacles
-IsWhiteStep problem r (Split nodes) = IsPivotSplit problem r nodes.items
+abbrev pub IsWhiteStep : WhiteProblem → Region → Step Region → Type 0
+IsWhiteStep problem region (Settled key) = IsClear region.rect problem.obstacles
+IsWhiteStep problem region (Split nodes) = IsPivotSplit problem region.rect nodes.items

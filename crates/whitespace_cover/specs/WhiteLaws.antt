@@ -1,6 +1,6 @@
 -- What holds of all problems: their numbers decide them, and the bound of a node that fits bounds its keys.
-use Rattle.std.proofs.Common.{◌≡◌, ℕ, ◌<◌, ◌≤◌, List, ◌∷◌, arith, subst, refl}
-use Rattle.std.specs.Prelude.{ℤ, pos}
+use Rattle.std.proofs.Common.{◌≡◌, ℕ, ◌<◌, ◌≤◌, List, arith, subst, refl}
+use Rattle.std.specs.Prelude.{ℤ}
 use Rattle.std.proofs.lemmas.Int.{ints}
 use Rattle.layout_geom.specs.declared.rect.Rect.{Rect}
 use Rattle.layout_geom.specs.Rectangles.{Encloses}
@@ -9,6 +9,7 @@ use Rattle.layout_geom.specs.BoxNumbers.{same_box, all_boxes}
 use Rattle.layout_geom.specs.NumberLists.{same_first}
 use Rattle.box_search.specs.declared.space.Shape.{Shape}
 use Rattle.box_search.specs.declared.space.Node.{Node}
+use Rattle.whitespace_cover.specs.declared.region.Region.{Region}
 use Rattle.whitespace_cover.specs.Problem.{WhiteProblem, white_numbers, IsWhiteKey}
 use Rattle.whitespace_cover.specs.Regions.{shape_of, IsRectWithin, RectLiesIn, FitsWhite}
 
@@ -47,10 +48,10 @@ within_shape q r inside = record {
   bottom = omega (arith, ints, inside.bottom);
 }
 
-pub white_bounded : (numbers : List ℤ) (node : Node Rect) (key : ℕ) → FitsWhite numbers node → IsWhiteKey numbers key
+pub white_bounded : (numbers : List ℤ) (node : Node Region) (key : ℕ) → FitsWhite numbers node → IsWhiteKey numbers key
     → RectLiesIn key node.shape → key ≤ node.bound
 white_bounded numbers node key fits admitted lies =
-    let rect : Rect = node.work in
+    let rect : Rect = node.work.rect in
     let within : Encloses rect lies.rect = enclosed rect lies.rect
     (subst (λ (s : Shape). IsRectWithin s lies.rect) fits.holds.outline.shape lies.within) in
     omega (arith, fits.holds.outline.bound, lies.has_key, no_greater_key rect lies.rect within)

@@ -12,4 +12,5 @@ mod tests;
 mod white;
 
 pub use greedy::{cover, cover_is_unique};
+pub use region::Region;
 pub use white::White;

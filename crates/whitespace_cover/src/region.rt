@@ -4,12 +4,22 @@ ghost use Rattle.layout_geom.specs.declared.rect.Rect.{Rect};
 ghost use Rattle.layout_geom.specs.Rectangles.{width_of, height_of, Overlaps, Encloses, IsCut};
 ghost use Rattle.box_search.specs.declared.space.Node.{Node};
 ghost use Rattle.whitespace_cover.specs.Admissible.{IsRoomy};
+ghost use Rattle.whitespace_cover.specs.declared.region.Region.{Region};
 ghost use Rattle.whitespace_cover.specs.Regions.{IsRectNode, roomy_parts};
 
 use box_search::{Node, Shape};
 use layout_geom::Rect;
 use layout_limits::OutOfMemory;
 use std::alloc::Global;
+
+/// What a node of the white space carries: the rectangle that is searched, and which obstacles a step need not look at.
+#[derive(Clone, Copy, Debug)]
+pub struct Region {
+    /// The rectangle that is searched.
+    pub rect: Rect,
+    /// In a node that fits: where bit k is clear, the k-th obstacle from the end, counted from 0, does not overlap it.
+    pub mask: u64,
+}
 
 /// Whether a rectangle is at least as wide and as high as the least size.
 pub(crate) fn is_roomy(least: u16, rect: &Rect) -> bool
@@ -20,9 +30,10 @@ pub(crate) fn is_roomy(least: u16, rect: &Rect) -> bool
 }
 
 /// The node of a rectangle.
-pub(crate) fn node_of(rect: Rect) -> Node<Rect>
+pub(crate) fn node_of(rect: Rect, mask: u64) -> Node<Region>
     ensures outline { IsRectNode result }
-    ensures rect { result.work ≡ rect }
+    ensures rect { result.work.rect ≡ rect }
+    ensures mask { result.work.mask ≡ mask }
 {
     Node {
         shape: Shape {
@@ -34,29 +45,32 @@ pub(crate) fn node_of(rect: Rect) -> Node<Rect>
             c1: 1,
         },
         bound: rect.key(),
-        work: rect,
+        work: Region { rect, mask },
     }
 }
 
-/// The nodes of the parts of a rectangle round a pivot that have the least size.
+/// The nodes of the parts of a rectangle round a pivot that have the least size. What does not overlap the rectangle
+/// overlaps none of its parts, so these have its mask.
 pub(crate) fn parts(
     alloc: Global,
     least: u16,
     rect: &Rect,
     pivot: &Rect,
-) -> Result<Vec<Node<Rect>>, OutOfMemory>
+    mask: u64,
+) -> Result<Vec<Node<Region>>, OutOfMemory>
     requires { Overlaps rect.now pivot.now }
     ensures rects { IfOk result (λ nodes. (parts : List (Option Rect)) × IsCut rect.now pivot.now parts
-        × (map (λ (node : Node Rect). node.work) nodes.items ≡ roomy_parts least parts)) }
+        × (map (λ (node : Node Region). node.work.rect) nodes.items ≡ roomy_parts least parts)) }
     ensures nodes { IfOk result (λ nodes. All IsRectNode nodes.items) }
+    ensures masks { IfOk result (λ nodes. All (λ (node : Node Region). node.work.mask ≡ mask) nodes.items) }
     ensures covering { IfOk result (λ nodes. (inner : Rect) → Encloses rect.now inner → (Overlaps inner pivot.now → ⊥)
-        → IsRoomy least inner → Any (λ (node : Node Rect). Encloses node.work inner) nodes.items) }
+        → IsRoomy least inner → Any (λ (node : Node Region). Encloses node.work.rect inner) nodes.items) }
 {
     let mut nodes = Vec::with_capacity(alloc, 4)?;
     for part in &rect.cut4(pivot) {
         if let Some(inner) = part {
             if is_roomy(least, inner) {
-                nodes.push(node_of(*inner))?;
+                nodes.push(node_of(*inner, mask))?;
             }
         }
     }

@@ -8,7 +8,7 @@ use box_search::{Alone, Noted, Searcher};
 use chance::next_number;
 use layout_geom::{Rect, Rects};
 use layout_limits::OutOfMemory;
-use plain::{Sides, best_of_all, chance_box, rank_of};
+use plain::{Sides, best_of_all, chance_box};
 use std::alloc::Global;
 use std::process::Abort;
 use std::test::Fail;
@@ -44,29 +44,34 @@ pub(crate) fn white_of(
     Ok(White::new(rect_of(rt, page), obstacles, least))
 }
 
-#[test]
-fn corner_block(rt: HostRuntime) -> Result<(), Fail> {
-    let white = white_of(&rt, rt.alloc(), (0, 0, 16, 16), &[(0, 0, 3, 3)], 8)?;
-    assert_eq!(rt; Alone.best(rt.alloc(), &white)?, RIGHT);
+/// What a search answers by its two calls for a page and the least size 8, and the note that the second leaves.
+fn answers_of(
+    rt: &impl Abort,
+    alloc: Global,
+    page: Sides,
+    obstacles: &[Sides],
+) -> Result<(u64, u64, u64), OutOfMemory> {
+    let white = white_of(rt, alloc, page, obstacles, 8)?;
+    let key = Alone.best(alloc, &white)?;
     let mut noted = Noted {
         space: &white,
         low: u64::MAX,
     };
-    assert_eq!(rt; Alone.best_on(rt.alloc(), &mut noted)?, RIGHT);
-    assert!(rt; noted.low >= RIGHT);
+    let again = Alone.best_on(alloc, &mut noted)?;
+    Ok((key, again, noted.low))
+}
+
+#[test]
+fn corner_block(rt: HostRuntime) -> Result<(), Fail> {
+    let (key, again, low) = answers_of(&rt, rt.alloc(), (0, 0, 16, 16), &[(0, 0, 3, 3)])?;
+    assert!(rt; key == RIGHT && again == RIGHT && low >= RIGHT);
     Ok(())
 }
 
 #[test]
 fn page_below_the_least_size(rt: HostRuntime) -> Result<(), Fail> {
-    let white = white_of(&rt, rt.alloc(), (0, 0, 4, 4), &[], 8)?;
-    assert_eq!(rt; Alone.best(rt.alloc(), &white)?, 0);
-    let mut noted = Noted {
-        space: &white,
-        low: u64::MAX,
-    };
-    assert_eq!(rt; Alone.best_on(rt.alloc(), &mut noted)?, 0);
-    assert_eq!(rt; noted.low, u64::MAX);
+    let (key, again, low) = answers_of(&rt, rt.alloc(), (0, 0, 4, 4), &[])?;
+    assert!(rt; key == 0 && again == 0 && low == u64::MAX);
     Ok(())
 }
 
@@ -88,34 +93,28 @@ const PAGES: [(Sides, &[Sides], u16); 12] = [
     ((2, 2, 6, 6), &[(0, 0, 2, 8), (6, 0, 8, 8)], 2),
 ];
 
-/// Compares the search with the plain program.
-fn compare(
+/// Whether the search finds what the plain program does.
+fn finds_the_best(
     rt: &impl Abort,
     alloc: Global,
     page: Sides,
     obstacles: &[Sides],
     least: u16,
-) -> Result<(), OutOfMemory> {
+) -> Result<bool, OutOfMemory> {
     let white = white_of(rt, alloc, page, obstacles, least)?;
     let key = Alone.best(alloc, &white)?;
-    let found = Rect::of_key(key).map(|r| (r.x0(), r.y0(), r.x1(), r.y1()));
     let best = best_of_all(page, obstacles, least);
-    assert_eq!(rt; found.map(rank_of), best.map(rank_of), "{page:?} {least}");
-    assert_eq!(rt; key == 0, best.is_none(), "{page:?} {least}");
-    let indexed = White::indexed(
-        alloc,
-        rect_of(rt, page),
-        rects_of(rt, alloc, obstacles)?,
-        least,
-    )?;
-    assert_eq!(rt; Alone.best(alloc, &indexed)?, key, "{page:?} {least}");
-    Ok(())
+    let best_key = best.map_or(0, |sides| rect_of(rt, sides).key());
+    Ok(key == best_key)
 }
 
 #[test]
 fn small_pages_by_hand(rt: HostRuntime) -> Result<(), Fail> {
     for (page, obstacles, least) in PAGES {
-        compare(&rt, rt.alloc(), page, obstacles, least)?;
+        assert!(rt;
+            finds_the_best(&rt, rt.alloc(), page, obstacles, least)?,
+            "{page:?} {least}"
+        );
     }
     Ok(())
 }
@@ -129,7 +128,10 @@ fn small_pages_by_chance(rt: HostRuntime) -> Result<(), Fail> {
             number = next_number(number);
             obstacles.push(chance_box(number, 8, 3))?;
         }
-        compare(&rt, rt.alloc(), (0, 0, 8, 8), &obstacles, turn % 3 + 1)?;
+        assert!(rt;
+            finds_the_best(&rt, rt.alloc(), (0, 0, 8, 8), &obstacles, turn % 3 + 1)?,
+            "{turn}"
+        );
     }
     Ok(())
 }

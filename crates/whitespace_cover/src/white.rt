@@ -1,7 +1,7 @@
 //! The white rectangles of a page, as a space to be searched.
 use crate::cells::Cells;
 use crate::pivot::pivot_of;
-use crate::region::{is_roomy, node_of, parts};
+use crate::region::{Region, is_roomy, node_of, parts};
 use box_search::{Node, Space, Step};
 use layout_geom::{Rect, Rects};
 use layout_limits::OutOfMemory;
@@ -10,7 +10,7 @@ use std::marker::Model;
 
 /// How many of the last obstacles are looked at before the index, as those that are pushed later are: large
 /// ones leave little to search.
-const LOOKED_AT_FIRST: usize = 16;
+const LOOKED_AT_FIRST: usize = 32;
 
 /// The rectangles of a page that overlap no obstacle and have at least a least size, to be searched
 /// for the one of greatest key: Breuel's search for the greatest white rectangle (2002).
@@ -99,7 +99,7 @@ impl Space for White {
     ghost use Rattle.whitespace_cover.specs.Regions.{RectLiesIn, IsNodeOf, FitsWhite, IsWhiteStep};
     ghost use Rattle.whitespace_cover.specs.WhiteLaws.{white_positive, white_bounded};
 
-    type Work = Rect;
+    type Work = Region;
 
     ghost problem = { white_numbers };
 
@@ -113,7 +113,7 @@ impl Space for White {
 
     ghost bounded = { white_bounded };
 
-    fn root(&self, _alloc: Global) -> Result<Option<Node<Rect>>, OutOfMemory>
+    fn root(&self, _alloc: Global) -> Result<Option<Node<Region>>, OutOfMemory>
         ensures root { let p = white_numbers self.now in IfOk result (IsRootOf (IsWhiteKey p) RectLiesIn (FitsWhite p)) }
         // There is none exactly where the page is below the least size, and else it is the page.
         ensures none { IfOk result (λ root. IsNone root
@@ -123,19 +123,20 @@ impl Space for White {
         if !is_roomy(self.least, &self.page) {
             return Ok(None);
         }
-        Ok(Some(node_of(self.page)))
+        Ok(Some(node_of(self.page, u64::MAX)))
     }
 
-    fn step(&self, alloc: Global, node: &Node<Rect>) -> Result<Step<Rect>, OutOfMemory>
+    fn step(&self, alloc: Global, node: &Node<Region>) -> Result<Step<Region>, OutOfMemory>
         requires fits { FitsWhite (white_numbers self.now) node.now }
         ensures step { let p = white_numbers self.now in IfOk result (IsStepOf (IsWhiteKey p) RectLiesIn (FitsWhite p) node.now) }
         ensures exactly { IfOk result (IsWhiteStep self.now node.now.work) }
     {
         let obstacles = self.obstacles.as_slice();
-        match pivot_of(self.least, obstacles, &self.cells, &node.work) {
+        let scan = pivot_of(self.least, obstacles, &self.cells, &node.work);
+        match scan.pivot {
             None => Ok(Step::Settled(node.bound)),
             Some(pivot) => {
-                let nodes = parts(alloc, self.least, &node.work, &pivot)?;
+                let nodes = parts(alloc, self.least, &node.work.rect, &pivot, scan.mask)?;
                 Ok(Step::Split(nodes))
             }
         }

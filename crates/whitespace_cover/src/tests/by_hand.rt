@@ -5,9 +5,8 @@ ghost use Rattle.whitespace_cover.specs.Problem.{white_numbers};
 ghost use Rattle.whitespace_cover.specs.Regions.{FitsWhite};
 
 use super::{RIGHT, white_of};
-use crate::White;
+use crate::{Region, White};
 use box_search::{Frontier, Lease, Node, Shape, Space, Step, Take};
-use layout_geom::Rect;
 use layout_limits::OutOfMemory;
 use std::alloc::Global;
 use std::process::Abort;
@@ -25,7 +24,7 @@ fn shape_of(x0: i32, y0: i32, x1: i32, y1: i32) -> Shape {
 }
 
 /// A frontier with a root open.
-fn begin(alloc: Global, white: &White, root: Node<Rect>) -> Result<Frontier<Rect>, OutOfMemory>
+fn begin(alloc: Global, white: &White, root: Node<Region>) -> Result<Frontier<Region>, OutOfMemory>
     requires { FitsWhite (white_numbers white.now) root }
     ensures fitting { IfOk result (λ frontier. All (FitsWhite (white_numbers white.now)) frontier.open_nodes) }
 {
@@ -35,7 +34,7 @@ fn begin(alloc: Global, white: &White, root: Node<Rect>) -> Result<Frontier<Rect
 }
 
 /// Leases an open node.
-fn lease(white: &White, frontier: &mut Frontier<Rect>) -> Option<Lease<Rect>>
+fn lease(white: &White, frontier: &mut Frontier<Region>) -> Option<Lease<Region>>
     requires fitting { All (FitsWhite (white_numbers white.now)) frontier.old.open_nodes }
     ensures fitting { IfSome result (λ _. All (FitsWhite (white_numbers white.now)) frontier.new.open_nodes) }
     ensures fits { IfSome result (λ lease. FitsWhite (white_numbers white.now) lease.node) }
@@ -50,7 +49,7 @@ fn lease(white: &White, frontier: &mut Frontier<Rect>) -> Option<Lease<Rect>>
 }
 
 /// `Some` where nothing is open and something is out.
-fn look_idle(white: &White, frontier: &mut Frontier<Rect>) -> Option<()>
+fn look_idle(white: &White, frontier: &mut Frontier<Region>) -> Option<()>
     requires fitting { All (FitsWhite (white_numbers white.now)) frontier.old.open_nodes }
     ensures fitting { IfSome result (λ _. All (FitsWhite (white_numbers white.now)) frontier.new.open_nodes) }
     ensures same { IfSome result (λ _. frontier.new ≡ frontier.old) }
@@ -66,9 +65,9 @@ fn look_idle(white: &White, frontier: &mut Frontier<Rect>) -> Option<()>
 /// Ends a lease.
 fn finish(
     white: &White,
-    frontier: &mut Frontier<Rect>,
-    lease: Lease<Rect>,
-    nodes: Vec<Node<Rect>>,
+    frontier: &mut Frontier<Region>,
+    lease: Lease<Region>,
+    nodes: Vec<Node<Region>>,
     seen: u64,
 ) -> Result<(), OutOfMemory>
     requires fitting { All (FitsWhite (white_numbers white.now)) frontier.old.open_nodes }
@@ -85,7 +84,7 @@ fn finish(
 }
 
 /// Opens the node of a lease again.
-fn reopen(white: &White, frontier: &mut Frontier<Rect>, lease: Lease<Rect>)
+fn reopen(white: &White, frontier: &mut Frontier<Region>, lease: Lease<Region>)
     requires fitting { All (FitsWhite (white_numbers white.now)) frontier.old.open_nodes }
     requires fits { FitsWhite (white_numbers white.now) lease.node }
     requires out { Contains frontier.old.leased (entry_of lease) }
@@ -100,8 +99,8 @@ fn split(
     rt: &impl Abort,
     alloc: Global,
     white: &White,
-    node: &Node<Rect>,
-) -> Result<Vec<Node<Rect>>, OutOfMemory>
+    node: &Node<Region>,
+) -> Result<Vec<Node<Region>>, OutOfMemory>
     requires { FitsWhite (white_numbers white.now) node.now }
     ensures { IfOk result (λ nodes. All (FitsWhite (white_numbers white.now)) nodes.items) }
 {
@@ -116,7 +115,7 @@ fn settle(
     rt: &impl Abort,
     alloc: Global,
     white: &White,
-    node: &Node<Rect>,
+    node: &Node<Region>,
 ) -> Result<u64, OutOfMemory>
     requires { FitsWhite (white_numbers white.now) node.now }
 {
@@ -131,7 +130,7 @@ fn cut_the_page(
     rt: &impl Abort,
     alloc: Global,
     white: &White,
-    frontier: &mut Frontier<Rect>,
+    frontier: &mut Frontier<Region>,
 ) -> Result<(), OutOfMemory>
     requires fitting { All (FitsWhite (white_numbers white.now)) frontier.old.open_nodes }
     ensures fitting { OnOk result (All (FitsWhite (white_numbers white.now)) frontier.new.open_nodes) }
@@ -139,15 +138,15 @@ fn cut_the_page(
     let Some(whole) = lease(white, frontier) else {
         panic!(rt; "nothing is open");
     };
-    assert_eq!(rt; whole.number, 0);
-    assert_eq!(rt; whole.node.shape, shape_of(0, 0, 16, 16));
+    assert!(rt; whole.number == 0 && whole.node.shape == shape_of(0, 0, 16, 16));
     let Some(()) = look_idle(white, frontier) else {
         panic!(rt; "not idle");
     };
     let nodes = split(rt, alloc, white, &whole.node)?;
-    assert_eq!(rt; nodes.len(), 2);
-    assert_eq!(rt; nodes[0].shape, shape_of(3, 0, 16, 16));
-    assert_eq!(rt; nodes[1].shape, shape_of(0, 3, 16, 16));
+    assert!(rt; nodes.len() == 2);
+    assert!(rt;
+        nodes[0].shape == shape_of(3, 0, 16, 16) && nodes[1].shape == shape_of(0, 3, 16, 16)
+    );
     finish(white, frontier, whole, nodes, 0)
 }
 
@@ -156,7 +155,7 @@ fn look_at_the_right(
     rt: &impl Abort,
     alloc: Global,
     white: &White,
-    frontier: &mut Frontier<Rect>,
+    frontier: &mut Frontier<Region>,
 ) -> Result<(), OutOfMemory>
     requires fitting { All (FitsWhite (white_numbers white.now)) frontier.old.open_nodes }
     ensures fitting { OnOk result (All (FitsWhite (white_numbers white.now)) frontier.new.open_nodes) }
@@ -164,8 +163,8 @@ fn look_at_the_right(
     let Some(right) = lease(white, frontier) else {
         panic!(rt; "nothing is open");
     };
-    assert_eq!(rt; right.node.shape, shape_of(3, 0, 16, 16));
-    assert_eq!(rt; settle(rt, alloc, white, &right.node)?, RIGHT);
+    assert!(rt; right.node.shape == shape_of(3, 0, 16, 16));
+    assert!(rt; settle(rt, alloc, white, &right.node)? == RIGHT);
     reopen(white, frontier, right);
     Ok(())
 }
@@ -175,7 +174,7 @@ fn end_a_part(
     rt: &impl Abort,
     alloc: Global,
     white: &White,
-    frontier: &mut Frontier<Rect>,
+    frontier: &mut Frontier<Region>,
     shape: Shape,
 ) -> Result<(), OutOfMemory>
     requires fitting { All (FitsWhite (white_numbers white.now)) frontier.old.open_nodes }
@@ -184,7 +183,7 @@ fn end_a_part(
     let Some(part) = lease(white, frontier) else {
         panic!(rt; "nothing is open");
     };
-    assert_eq!(rt; part.node.shape, shape);
+    assert!(rt; part.node.shape == shape);
     finish(white, frontier, part, Vec::new(alloc), RIGHT)
 }
 
@@ -197,7 +196,7 @@ fn frontier_by_hand(rt: HostRuntime) -> Result<(), Fail> {
     };
     let mut frontier = begin(alloc, &white, root)?;
     cut_the_page(&rt, alloc, &white, &mut frontier)?;
-    assert_eq!(rt; (frontier.waiting(), frontier.out()), (2, 0));
+    assert!(rt; frontier.waiting() == 2 && frontier.out() == 0);
     look_at_the_right(&rt, alloc, &white, &mut frontier)?;
     end_a_part(&rt, alloc, &white, &mut frontier, shape_of(3, 0, 16, 16))?;
     end_a_part(&rt, alloc, &white, &mut frontier, shape_of(0, 3, 16, 16))?;

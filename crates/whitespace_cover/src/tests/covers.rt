@@ -7,6 +7,7 @@ use chance::next_number;
 use layout_geom::{Rect, Rects};
 use layout_limits::OutOfMemory;
 use std::alloc::Global;
+use std::process::Abort;
 use std::test::Fail;
 
 /// A page with its boxes, and the rectangles of its cover in their order.
@@ -90,7 +91,7 @@ fn covers_by_hand(rt: HostRuntime) -> Result<(), Fail> {
         assert!(rt; 1 <= case.least && case.count <= 256 && boxes.len() <= 60_000);
         let found = cover(rt.alloc(), page, &boxes, case.least, case.count, &mut Alone)?;
         let expected = rects_of(&rt, rt.alloc(), case.rects)?;
-        assert_eq!(rt; found.as_slice(), expected.as_slice());
+        assert!(rt; found.as_slice() == expected.as_slice());
     }
     cover_is_unique();
     Ok(())
@@ -122,22 +123,32 @@ fn plain_cover(
     Ok(found)
 }
 
-// Boxes so close together that most of them become bars, over several cells of the index.
+/// Boxes by chance, so close together that most of them become bars.
+fn chance_boxes(
+    rt: &impl Abort,
+    alloc: Global,
+    seed: u64,
+    count: u16,
+) -> Result<Rects, OutOfMemory> {
+    let mut boxes = Rects::new(alloc);
+    let mut number = seed;
+    for _ in 0..count {
+        number = next_number(number);
+        boxes.push(rect_of(rt, chance_box(number, 200, 12)))?;
+    }
+    Ok(boxes)
+}
+
+// Boxes over several cells of the index, and so many rectangles that some are beyond the reach of the masks.
 #[test]
 fn bars_and_cells_change_no_cover(rt: HostRuntime) -> Result<(), Fail> {
     let page = rect_of(&rt, (0, 0, 210, 200));
-    let mut number = 7;
-    for turn in 0..12_u16 {
-        let mut sides: Vec<Sides> = Vec::new(rt.alloc());
-        for _ in 0..40 + 10 * turn {
-            number = next_number(number);
-            sides.push(chance_box(number, 200, 12))?;
-        }
-        let boxes = rects_of(&rt, rt.alloc(), &sides)?;
+    for turn in 0..8_u16 {
+        let boxes = chance_boxes(&rt, rt.alloc(), turn as u64 + 7, 60 + 10 * turn)?;
         assert!(rt; boxes.len() <= 60_000);
-        let found = cover(rt.alloc(), page, &boxes, 4 + turn, 20, &mut Alone)?;
-        let expected = plain_cover(rt.alloc(), page, &boxes, 4 + turn, 20)?;
-        assert_eq!(rt; found.as_slice(), expected.as_slice(), "{turn}");
+        let found = cover(rt.alloc(), page, &boxes, 4 + turn, 48, &mut Alone)?;
+        let expected = plain_cover(rt.alloc(), page, &boxes, 4 + turn, 48)?;
+        assert!(rt; found.as_slice() == expected.as_slice(), "{turn}");
     }
     Ok(())
 }

@@ -5,7 +5,7 @@ ghost use Rattle.std.specs.Prelude.{◌<◌, ◌≤◌};
 pub(crate) type Sides = (u16, u16, u16, u16);
 
 /// The area of a rectangle, and its `y0`, `x0` and width with the sign turned: the greater is preferred.
-pub(crate) fn rank_of(sides: Sides) -> (i64, i64, i64, i64) {
+fn rank_of(sides: Sides) -> (i64, i64, i64, i64) {
     let (x0, y0, x1, y1) = sides;
     let (width, height) = (x1 as i64 - x0 as i64, y1 as i64 - y0 as i64);
     (width * height, -(y0 as i64), -(x0 as i64), -width)
