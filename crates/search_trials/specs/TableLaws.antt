@@ -3,7 +3,6 @@ use Rattle.std.specs.Prelude.{◌≡◌, ℕ, ◌<◌, ◌≤◌, ℤ, pos, List
 use Rattle.std.proofs.Common.{arith, ap, ◌∙◌, sym}
 use Rattle.std.proofs.lemmas.Int.{ints}
 use Rattle.box_search.specs.declared.space.Shape.{Shape}
-use Rattle.box_search.specs.declared.space.Node.{Node}
 use Rattle.box_search.specs.Search.{BoundsKeys}
 use Rattle.search_trials.specs.Table.{table_problem, keys_of, span_shape, IsKey, LiesIn, FitsTable}
 

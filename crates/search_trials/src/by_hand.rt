@@ -1,5 +1,5 @@
 //! A worker by hand: it leases a node, takes its step outside the turn, and ends the lease in its next turn.
-ghost use Rattle.std.specs.Prelude.{◌≡◌, ◌≤◌, ◌∷◌, [], All, IfOk};
+ghost use Rattle.std.specs.Prelude.{◌≡◌, ℕ, ◌≤◌, ◌∷◌, [], All, IfOk};
 ghost use Rattle.std.specs.List.Sorted.{IsPermutation};
 ghost use Rattle.box_search.specs.Leasing.{entry_of};
 ghost use Rattle.frontier_turn.specs.Callers.{IsOwn};
@@ -29,34 +29,34 @@ pub fn take_lease<S: Space, R: Wait>(
     (take, turn.leave())
 }
 
-/// The word by which a node may be pruned, and the nodes to search in its place.
-fn replace<S: Space>(
+/// The word by which a node may be pruned, which the pass has read or raised, and the nodes to search in its place.
+pub(crate) fn replace<S: Space, B: BoundWord>(
     alloc: Global,
     space: &S,
-    shared: &Shared<'_, S>,
-    pass: &mut Pass<S>,
+    bound: &B,
+    pass: &mut B::Pass,
     node: &Node<S::Work>,
 ) -> Result<(u64, Vec<Node<S::Work>>), OutOfMemory>
-    requires space { shared.now.problem ≡ S.problem space.now }
-    requires own { IsOwn shared.now pass.old }
-    requires fits { S.fits shared.now.problem node.now }
-    ensures own { IsOwn shared.now pass.new }
-    ensures rest { pass.new.view.rest ≡ pass.old.view.rest }
-    ensures seen { IfOk result (λ found. found.0 ≤ pass.new.view.seen) }
-    ensures fits { IfOk result (λ found. All (S.fits shared.now.problem) found.1.items) }
-    ensures replaces { let p = shared.now.problem in
+    requires admits { (key : ℕ) → S.admits (S.problem space.now) key → B.admits bound.now key }
+    requires own { B.is_own bound.now pass.old }
+    requires fits { S.fits (S.problem space.now) node.now }
+    ensures own { B.is_own bound.now pass.new }
+    ensures rest { B.rest pass.new ≡ B.rest pass.old }
+    ensures seen { IfOk result (λ found. found.0 ≤ B.seen pass.new) }
+    ensures fits { IfOk result (λ found. All (S.fits (S.problem space.now)) found.1.items) }
+    ensures replaces { let p = S.problem space.now in
         IfOk result (λ found. Replaces (S.admits p) (S.lies_in p) node.now.shape found.0 found.1.items) }
 {
-    let word = shared.read(pass);
+    let word = bound.read(pass);
     if node.bound <= word {
         return Ok((word, Vec::new(alloc)));
     }
     match space.step(alloc, node)? {
         Step::Settled(key) => {
-            let word = shared.raise(pass, key);
+            let word = bound.raise(pass, key);
             Ok((word.max(key), Vec::new(alloc)))
         }
-        Step::Split(nodes) => Ok((shared.read(pass), nodes)),
+        Step::Split(nodes) => Ok((bound.read(pass), nodes)),
     }
 }
 

@@ -4,6 +4,7 @@
 
 mod by_hand;
 mod meeting;
+mod shard_hand;
 mod table;
 #[cfg(test)]
 mod tests;
@@ -11,5 +12,6 @@ mod watched;
 
 pub use by_hand::{give_back, take_lease, work, work_off};
 pub use meeting::{Meeting, StepsMeet};
+pub use shard_hand::{Look, ShardHand};
 pub use table::{Span, Table};
 pub use watched::{RefusesOnce, Watched, Watcher};

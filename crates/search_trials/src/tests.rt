@@ -4,6 +4,7 @@ use chance::next_number;
 mod alone;
 mod desk;
 mod frontier;
+mod shards;
 mod shared;
 mod workers;
 

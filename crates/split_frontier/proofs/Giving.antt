@@ -1,22 +1,20 @@
 -- The step that gives the turn of a shard back keeps the rule of the split search.
-use Rattle.std.proofs.Common.{◌≡◌, ℕ, suc, ◌+◌, ◌<◌, ◌≤◌, ◌≢◌, ◌⊎◌, List, ℤ, [], ◌∷◌, Bool, true, false, cond, eqb, length, get_or, set, max, sym, refl, ap, ◌∙◌, inl, inr, ⊎_elim, subst, arith, rules, ne_eqb, Option, Some, None, length-set, get_or-set_same, get_or-set_other}
-use Rattle.std.specs.Prelude.{All, Any}
-use Rattle.std.proofs.lemmas.Bool.{eqb-true, eq-eqb}
+use Rattle.std.proofs.Common.{◌≡◌, ℕ, suc, ◌<◌, ◌≤◌, ◌≢◌, ◌⊎◌, List, ℤ, [], ◌∷◌, true, cond, eqb, length, get_or, set, sym, refl, ap, ◌∙◌, inl, inr, ⊎_elim, subst, arith, rules, ne_eqb, Option, Some, length-set, get_or-set_same, get_or-set_other}
+use Rattle.std.specs.Prelude.{Any}
+use Rattle.std.proofs.lemmas.Bool.{eq-eqb}
 use mathlib.Core.Option.{Option as Maybe, none, some, some-injective}
 use mathlib.Core.Logic.{dite}
 use native.Mathlib.Decide.{ℕ_discrete}
 use lib.ListN.{get_elem?}
-use Rattle.atomic_table.specs.Table.{State, Me, Act, step, keeps, takes, gives, stepped, carried_after, Valid, Allows}
-use Rattle.atomic_table.proofs.Lists.{at_set, set_here, set_else}
+use Rattle.atomic_table.specs.Table.{step, gives, Allows}
+use Rattle.atomic_table.proofs.Lists.{set_here, set_else}
 use Rattle.box_search.specs.declared.space.Node.{Node}
 use Rattle.box_search.specs.declared.space.Shape.{Shape}
 use Rattle.box_search.specs.declared.lease.Entry.{Entry}
-use Rattle.box_search.specs.Search.{IsSound}
-use Rattle.bound_word.proofs.Rises.{sound_max}
 use Rattle.frontier_turn.specs.declared.view.Outline.{Outline}
 use Rattle.frontier_turn.specs.declared.view.Snapshot.{Snapshot}
 use Rattle.frontier_turn.specs.Bags.{total, one_if}
-use Rattle.frontier_turn.specs.Snapshots.{snapshot_of, nothing_left, is_empty, numbered, NumbersDiffer}
+use Rattle.frontier_turn.specs.Snapshots.{snapshot_of, nothing_left, is_empty, NumbersDiffer}
 use Rattle.frontier_turn.proofs.Bags.{total_set, total_same, total_part}
 use Rattle.frontier_turn.proofs.Items.{here, within, each_set}
 use Rattle.frontier_turn.proofs.Parts.{two_parts}
@@ -24,28 +22,19 @@ use Rattle.frontier_turn.proofs.Truths.{empty_true}
 use Rattle.split_frontier.specs.declared.view.Claim.{Claim}
 use Rattle.split_frontier.specs.declared.view.View.{View}
 use Rattle.split_frontier.specs.declared.parked.Parked.{Parked}
-use Rattle.split_frontier.specs.Claims.{of_home, claims_after, IsClaimed}
-use Rattle.split_frontier.specs.Views.{blank, asks, meets, takes_turn, leaves_turn}
-use Rattle.split_frontier.specs.Rule.{Slot, parts_of, is_shard, held_by, named_by, is_listed, IsPass, IsOpen, IsOut, IsFree, IsHeld, IsTurned, ShardsClauses, ShardsRule}
-use Rattle.split_frontier.specs.Steps.{IsTold, Reads, Raises, Finds, TakesTurn, GivesTurn, IsToBeFound, MayReturn}
+use Rattle.split_frontier.specs.Claims.{claims_after, IsClaimed}
+use Rattle.split_frontier.specs.Views.{blank, leaves_turn}
+use Rattle.split_frontier.specs.Rule.{Slot, parts_of, is_shard, held_by, named_by, IsPass, IsOpen, IsOut, IsFree, IsHeld, IsTurned, ShardsClauses, ShardsRule}
+use Rattle.split_frontier.specs.Steps.{GivesTurn, IsToBeFound, MayReturn}
 use Rattle.split_frontier.proofs.Marks.{marked_listed}
 use Rattle.split_frontier.proofs.Moves.{suc_same}
 
 module _ {W : Type 0} (p : List ℤ) (admits : ℕ → Type 0) (lies_in : ℕ → Shape → Type 0) (fits : Node W → Type 0) where
-  abbrev St : Type 0
-  St = State (Slot W) View
-
   abbrev Home : Type 0
   Home = Maybe (Slot W)
 
-  abbrev Rule : St → Type 0
-  Rule = ShardsRule p admits lies_in fits
-
   abbrev K : List ℕ → List Home → List View → Type 0
   K = ShardsClauses p admits lies_in fits
-
-  abbrev Turned : ℕ → Home → ℕ → Snapshot → Type 0
-  Turned = IsTurned p admits lies_in fits
 
   module _ (slots id shard : ℕ) (v : View) (P : Parked W) (own : v.rest.problem ≡ p) (live : 0 < v.rest.parts) (holds : v.rest.holds ≡ Some shard) (back : MayReturn admits lies_in fits v shard P.frontier (claims_after v.rest.leases P.naming.value)) where
     abbrev claims : List Claim
@@ -126,7 +115,7 @@ module _ {W : Type 0} (p : List ℤ) (admits : ℕ → Type 0) (lies_in : ℕ �
                 spent = s.spent;
               });
           sound = rw stays k.sound;
-          turned = by_shard k.now (λ t z. (h : Home) → get_elem? homes' t ≡ some h → Turned (get_or words' (suc t) 0) h (total (held_by t) views') z)
+          turned = by_shard k.now (λ t z. (h : Home) → get_elem? homes' t ≡ some h → IsTurned p admits lies_in fits (get_or words' (suc t) 0) h (total (held_by t) views') z)
               (λ h h_at. inl record {
                 zero = get_or-set_same words (suc shard) 0 0 (omega arith);
                 nobody = nobody;
@@ -139,7 +128,7 @@ module _ {W : Type 0} (p : List ℤ) (admits : ℕ → Type 0) (lies_in : ℕ �
               let none_before : held_by t v ≡ 0 = ap (λ (o : Option ℕ). one_if (is_shard t o)) holds ∙ ap one_if (ne_eqb shard t (λ z. apart (sym z))) in
               let held = total_same (held_by t) views id v left at (sym none_before) in
               let turn_stays = get_or-set_other words (suc shard) (suc t) 0 0 (λ e. apart (omega arith)) in
-              subst (λ (n : ℕ × ℕ). Turned n.0 h n.1 (k.now t)) (λ i. (sym turn_stays i, sym held i)) (k.turned t h (sym (set_else homes shard t (some (Some P)) apart) ∙ h_at)));
+              subst (λ (n : ℕ × ℕ). IsTurned p admits lies_in fits n.0 h n.1 (k.now t)) (λ i. (sym turn_stays i, sym held i)) (k.turned t h (sym (set_else homes shard t (some (Some P)) apart) ∙ h_at)));
           covered = λ key fair. elim (k.covered key fair) [
             | inl le ↦ inl (omega arith)
             | inr (inl (t, opened)) ↦ dite (ℕ_discrete t shard)
@@ -161,8 +150,8 @@ module _ {W : Type 0} (p : List ℤ) (admits : ℕ → Type 0) (lies_in : ℕ �
           numbers = by_shard k.now (λ t z. NumbersDiffer z.leased) back.numbers (λ t _. k.numbers t);
         }
 
-    pub gives_the_turn : shard < slots → (i a b : ℕ) → i ≡ suc shard → Allows Rule slots id (v, (shard, Some P) ∷ []) i (λ _. 0) (GivesTurn (step slots i a b none) (v, (shard, Some P) ∷ []))
-    gives_the_turn there i a b i_is = subst (λ (i' : ℕ). Allows Rule slots id (v, (shard, Some P) ∷ []) i' (λ _. 0) (GivesTurn (step slots i' a b none) (v, (shard, Some P) ∷ []))) (sym i_is) (λ s r long at _. (
+    pub gives_the_turn : shard < slots → (i a b : ℕ) → i ≡ suc shard → Allows (ShardsRule p admits lies_in fits) slots id (v, (shard, Some P) ∷ []) i (λ _. 0) (GivesTurn (step slots i a b none) (v, (shard, Some P) ∷ []))
+    gives_the_turn there i a b i_is = subst (λ (i' : ℕ). Allows (ShardsRule p admits lies_in fits) slots id (v, (shard, Some P) ∷ []) i' (λ _. 0) (GivesTurn (step slots i' a b none) (v, (shard, Some P) ∷ []))) (sym i_is) (λ s r long at _. (
       left,
       gives,
       tt,

@@ -1,5 +1,5 @@
 -- What the holder of a shard's turn does with leases leaves it free to give the frontier back.
-use Rattle.std.proofs.Common.{◌≡◌, ℕ, ◌<◌, ◌≤◌, ◌≢◌, ◌⊎◌, List, ◌∷◌, ◌++◌, Bool, true, false, cond, sym, refl, ap, ◌∙◌, inl, inr, subst, arith, rules, Any, Contains}
+use Rattle.std.proofs.Common.{◌≡◌, ℕ, ◌≤◌, ◌≢◌, ◌⊎◌, List, ◌∷◌, ◌++◌, Bool, true, false, cond, sym, refl, ap, ◌∙◌, inl, inr, subst, arith, rules, Any, Contains}
 use Rattle.std.specs.Prelude.{All, IsPermutation}
 use Rattle.std.proofs.lemmas.List.Sorted.{All-permutation}
 use Rattle.std.proofs.lemmas.List.Elements.{All-cons, All-tail}

@@ -6,6 +6,7 @@ mod Passes
 mod Named
 mod Leases
 mod Turns
+mod InTurn
 mod Ends
 mod Counting
 pub mod Working

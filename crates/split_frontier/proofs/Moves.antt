@@ -1,33 +1,25 @@
 -- A step that changes no more than the bound word and what its pass knows keeps the rule of the split search.
-use Rattle.std.proofs.Common.{◌≡◌, ℕ, suc, ◌+◌, ◌<◌, ◌≤◌, ◌≢◌, ◌⊎◌, List, ℤ, [], ◌∷◌, Bool, true, false, cond, eqb, length, get_or, set, max, sym, refl, ap, ◌∙◌, inl, inr, ⊎_elim, subst, arith, rules, ne_eqb, Option, Some, None, length-set, get_or-set_same, get_or-set_other}
-use Rattle.std.specs.Prelude.{All, Any}
-use Rattle.std.proofs.lemmas.Bool.{eqb-true, eq-eqb}
+use Rattle.std.proofs.Common.{◌≡◌, ℕ, suc, ◌<◌, ◌≤◌, List, ℤ, length, get_or, set, max, sym, refl, ap, ◌∙◌, inl, inr, subst, arith, Option, length-set, get_or-set_same, get_or-set_other}
 use mathlib.Core.Option.{Option as Maybe, none, some, some-injective}
 use mathlib.Core.Logic.{dite}
 use native.Mathlib.Decide.{ℕ_discrete}
 use lib.ListN.{get_elem?}
-use Rattle.atomic_table.specs.Table.{State, Me, Act, step, keeps, takes, gives, stepped, carried_after, Valid, Allows}
-use Rattle.atomic_table.proofs.Lists.{at_set, set_here, set_else}
+use Rattle.atomic_table.specs.Table.{State, Me, step, keeps, stepped, Allows}
+use Rattle.atomic_table.proofs.Lists.{set_here, set_else}
 use Rattle.box_search.specs.declared.space.Node.{Node}
 use Rattle.box_search.specs.declared.space.Shape.{Shape}
-use Rattle.box_search.specs.declared.lease.Entry.{Entry}
 use Rattle.box_search.specs.Search.{IsSound}
 use Rattle.bound_word.proofs.Rises.{sound_max}
-use Rattle.frontier_turn.specs.declared.view.Outline.{Outline}
 use Rattle.frontier_turn.specs.declared.view.Snapshot.{Snapshot}
 use Rattle.frontier_turn.specs.Bags.{total, one_if}
-use Rattle.frontier_turn.specs.Snapshots.{snapshot_of, nothing_left, is_empty, numbered, NumbersDiffer}
-use Rattle.frontier_turn.proofs.Bags.{total_set, total_same, total_part}
-use Rattle.frontier_turn.proofs.Items.{here, within, each_set}
-use Rattle.frontier_turn.proofs.Parts.{two_parts}
-use Rattle.frontier_turn.proofs.Truths.{empty_true}
+use Rattle.frontier_turn.proofs.Bags.{total_same}
+use Rattle.frontier_turn.proofs.Items.{within, each_set}
 use Rattle.split_frontier.specs.declared.view.Claim.{Claim}
 use Rattle.split_frontier.specs.declared.view.View.{View}
-use Rattle.split_frontier.specs.declared.parked.Parked.{Parked}
-use Rattle.split_frontier.specs.Claims.{of_home, claims_after, IsClaimed}
-use Rattle.split_frontier.specs.Views.{blank, asks, meets, takes_turn, leaves_turn}
-use Rattle.split_frontier.specs.Rule.{Slot, parts_of, is_shard, held_by, named_by, is_listed, IsPass, IsOpen, IsOut, IsFree, IsHeld, IsTurned, ShardsClauses, ShardsRule}
-use Rattle.split_frontier.specs.Steps.{IsTold, Reads, Raises, Finds, TakesTurn, GivesTurn, IsToBeFound, MayReturn}
+use Rattle.split_frontier.specs.Claims.{of_home, IsClaimed}
+use Rattle.split_frontier.specs.Views.{asks}
+use Rattle.split_frontier.specs.Rule.{Slot, parts_of, is_shard, held_by, named_by, is_listed, IsPass, IsOut, IsTurned, ShardsClauses, ShardsRule}
+use Rattle.split_frontier.specs.Steps.{IsTold, Reads, Raises}
 
 pub suc_same : (a b : ℕ) → suc a ≡ suc b → a ≡ b
 suc_same a b e = omega arith
@@ -49,20 +41,11 @@ higher problem word word' now u more s = record {
 }
 
 module _ {W : Type 0} (p : List ℤ) (admits : ℕ → Type 0) (lies_in : ℕ → Shape → Type 0) (fits : Node W → Type 0) where
-  abbrev St : Type 0
-  St = State (Slot W) View
-
   abbrev Home : Type 0
   Home = Maybe (Slot W)
 
-  abbrev Rule : St → Type 0
-  Rule = ShardsRule p admits lies_in fits
-
   abbrev K : List ℕ → List Home → List View → Type 0
   K = ShardsClauses p admits lies_in fits
-
-  abbrev Turned : ℕ → Home → ℕ → Snapshot → Type 0
-  Turned = IsTurned p admits lies_in fits
 
   -- a step that changes no more than the bound word, and what the pass has seen, asked and met
   pub quiet : (words words' : List ℕ) (homes : List Home) (views : List View) (id : ℕ) (v w : View) → K words homes views → get_elem? views id ≡ some v → 0 < v.rest.parts
@@ -89,7 +72,7 @@ module _ {W : Type 0} (p : List ℤ) (admits : ℕ → Type 0) (lies_in : ℕ �
         sound = sound;
         turned = λ shard home home_at.
             let held = total_same (held_by shard) views id v w at (ap (λ (h : Option ℕ). one_if (is_shard shard h)) same_holds) in
-            subst (λ (n : ℕ × ℕ). Turned n.0 home n.1 (k.now shard)) (λ i. (sym (turns shard) i, sym held i)) (k.turned shard home home_at);
+            subst (λ (n : ℕ × ℕ). IsTurned p admits lies_in fits n.0 home n.1 (k.now shard)) (λ i. (sym (turns shard) i, sym held i)) (k.turned shard home home_at);
         covered = λ key fair. elim (k.covered key fair) [
           | inl low ↦ inl (omega arith)
           | inr (inl opened) ↦ inr (inl opened)

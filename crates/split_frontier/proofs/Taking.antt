@@ -1,33 +1,27 @@
 -- The step that takes the turn of a shard, or finds it held, keeps the rule of the split search.
-use Rattle.std.proofs.Common.{◌≡◌, ℕ, suc, ◌+◌, ◌<◌, ◌≤◌, ◌≢◌, ◌⊎◌, List, ℤ, [], ◌∷◌, Bool, true, false, cond, eqb, length, get_or, set, max, sym, refl, ap, ◌∙◌, inl, inr, ⊎_elim, subst, arith, rules, ne_eqb, Option, Some, None, length-set, get_or-set_same, get_or-set_other}
-use Rattle.std.specs.Prelude.{All, Any}
+use Rattle.std.proofs.Common.{◌≡◌, ℕ, suc, ◌<◌, ◌≤◌, ◌≢◌, List, ℤ, ◌∷◌, length, get_or, set, sym, refl, ap, ◌∙◌, inl, inr, ⊎_elim, subst, arith, ne_eqb, Option, Some, None, length-set, get_or-set_same, get_or-set_other}
+use Rattle.std.specs.Prelude.{All}
 use Rattle.std.proofs.lemmas.Bool.{eqb-true, eq-eqb}
 use mathlib.Core.Option.{Option as Maybe, none, some}
 use mathlib.Core.Logic.{dite}
 use native.Mathlib.Decide.{ℕ_discrete}
 use lib.ListN.{get_elem?}
-use Rattle.atomic_table.specs.Table.{State, Me, Act, step, keeps, takes, gives, stepped, carried_after, Valid, Allows}
-use Rattle.atomic_table.proofs.Lists.{at_set, set_here, set_else}
+use Rattle.atomic_table.specs.Table.{State, Me, Act, step, keeps, takes, stepped, carried_after, Valid, Allows}
+use Rattle.atomic_table.proofs.Lists.{at_set}
 use Rattle.box_search.specs.declared.space.Node.{Node}
 use Rattle.box_search.specs.declared.space.Shape.{Shape}
 use Rattle.box_search.specs.declared.lease.Entry.{Entry}
-use Rattle.box_search.specs.Search.{IsSound}
-use Rattle.bound_word.proofs.Rises.{sound_max}
-use Rattle.frontier_turn.specs.declared.view.Outline.{Outline}
 use Rattle.frontier_turn.specs.declared.view.Snapshot.{Snapshot}
 use Rattle.frontier_turn.specs.Bags.{total, one_if}
-use Rattle.frontier_turn.specs.Snapshots.{snapshot_of, nothing_left, is_empty, numbered, NumbersDiffer}
+use Rattle.frontier_turn.specs.Snapshots.{snapshot_of, numbered, NumbersDiffer}
 use Rattle.frontier_turn.proofs.Bags.{total_set, total_same, total_part}
-use Rattle.frontier_turn.proofs.Items.{here, within, each_set}
-use Rattle.frontier_turn.proofs.Parts.{two_parts}
-use Rattle.frontier_turn.proofs.Truths.{empty_true}
-use Rattle.split_frontier.specs.declared.view.Claim.{Claim}
+use Rattle.frontier_turn.proofs.Items.{here, each_set}
 use Rattle.split_frontier.specs.declared.view.View.{View}
 use Rattle.split_frontier.specs.declared.parked.Parked.{Parked}
-use Rattle.split_frontier.specs.Claims.{of_home, claims_after, IsClaimed}
-use Rattle.split_frontier.specs.Views.{blank, asks, meets, takes_turn, leaves_turn}
-use Rattle.split_frontier.specs.Rule.{Slot, parts_of, is_shard, held_by, named_by, is_listed, IsPass, IsOpen, IsOut, IsFree, IsHeld, IsTurned, ShardsClauses, ShardsRule}
-use Rattle.split_frontier.specs.Steps.{IsTold, Reads, Raises, Finds, TakesTurn, GivesTurn, IsToBeFound, MayReturn}
+use Rattle.split_frontier.specs.Claims.{of_home}
+use Rattle.split_frontier.specs.Views.{meets, takes_turn}
+use Rattle.split_frontier.specs.Rule.{Slot, parts_of, is_shard, held_by, named_by, IsPass, IsFree, IsHeld, IsTurned, ShardsClauses, ShardsRule}
+use Rattle.split_frontier.specs.Steps.{Finds, TakesTurn}
 use Rattle.split_frontier.proofs.Moves.{suc_same, out_set, higher, quiet}
 
 module _ {W : Type 0} (p : List ℤ) (admits : ℕ → Type 0) (lies_in : ℕ → Shape → Type 0) (fits_of : List ℤ → Node W → Type 0) where
@@ -45,9 +39,6 @@ module _ {W : Type 0} (p : List ℤ) (admits : ℕ → Type 0) (lies_in : ℕ �
 
   abbrev K : List ℕ → List Home → List View → Type 0
   K = ShardsClauses p admits lies_in fits
-
-  abbrev Turned : ℕ → Home → ℕ → Snapshot → Type 0
-  Turned = IsTurned p admits lies_in fits
 
   module _ (slots id : ℕ) (me : Me (Slot W) View) (own : me.0.rest.problem ≡ p) (live : 0 < me.0.rest.parts) (shard : ℕ) where
     abbrev turn : St → ℕ
@@ -126,12 +117,12 @@ module _ {W : Type 0} (p : List ℤ) (admits : ℕ → Type 0) (lies_in : ℕ �
               let nobody = f.nobody in
               let one : held_by shard w ≡ 1 = ap one_if (eq-eqb shard shard refl) in
               let held : IsHeld p admits lies_in fits (get_or words (suc shard) 0) h (total (held_by shard) (set s.views id w)) = record { one = turn_is s.words 1 (omega arith); somebody = omega arith; away = sym e.1 } in
-              subst (λ (k : ℕ). Turned (get_or words (suc k) 0) h (total (held_by k) (set s.views id w)) (r.now k)) (sym e.0) (inr held))
+              subst (λ (k : ℕ). IsTurned p admits lies_in fits (get_or words (suc k) 0) h (total (held_by k) (set s.views id w)) (r.now k)) (sym e.0) (inr held))
               (λ (e : (t ≢ shard) × (get_elem? s.homes t ≡ some h)).
               let apart = e.0 in
               let none_now : held_by t w ≡ 0 = ap one_if (ne_eqb shard t (λ z. apart (sym z))) in
               let held = total_same (held_by t) s.views id me.0 w at (none_now ∙ sym (held_before t)) in
-              subst (λ (n : ℕ × ℕ). Turned n.0 h n.1 (r.now t)) (λ i. (sym (turn_stays s.words 1 t apart) i, sym held i)) (r.turned t h e.1))
+              subst (λ (n : ℕ × ℕ). IsTurned p admits lies_in fits n.0 h n.1 (r.now t)) (λ i. (sym (turn_stays s.words 1 t apart) i, sym held i)) (r.turned t h e.1))
               (at_set s.homes shard t none h h_at);
           covered = λ key fair. elim (r.covered key fair) [
             | inl low ↦ inl (omega arith)

@@ -21,6 +21,10 @@ names_only fits home old new Done none names fit = names ∙ none
 pub only_named : (old : List Claim) (c : Claim) → old ≡ c ∷ [] → Contains old c
 only_named old c is = subst (λ (cs : List Claim). Contains cs c) (sym is) (Contains-head c [])
 
+-- in a turn of the lease's home it does so too
+pub only_named_here : (old : List Claim) (named_at : ℕ → Claim) (home shard : ℕ) → old ≡ named_at home ∷ [] → shard ≡ home → Contains old (named_at shard)
+only_named_here old named_at home shard is here = only_named old (named_at shard) (is ∙ ap (λ (place : ℕ). named_at place ∷ []) (sym here))
+
 -- it named just this lease, and names it no more
 pub none_left : (old new : List Claim) (c d : Claim) → old ≡ c ∷ [] → Unnames old d new → new ≡ []
 none_left old new c d is moved = nil_from_length new (let long : length old ≡ 1 = ap length is in omega (arith, length_permutation old (d ∷ new) moved))

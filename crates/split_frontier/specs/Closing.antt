@@ -1,6 +1,6 @@
 -- How a split search stands as it is closed.
 use Rattle.std.specs.Prelude.{◌≡◌, ℕ, ◌<◌, ◌≤◌, List, ℤ, Bool, true, false, min, length, take, All, Contains, slice_index, slice_index_or}
-use Rattle.std.specs.Prelude.{Option, Some}
+use Rattle.std.specs.Prelude.{Some}
 use mathlib.Core.Option.{Option as Maybe, none, some}
 use Rattle.atomic_table.specs.Table.{State}
 use Rattle.box_search.specs.declared.space.Node.{Node}

@@ -1,9 +1,10 @@
-//! Shared searches that are closed at once or after a turn by hand, and two threads on one frontier.
+//! Shared searches that are closed at once or after a turn by hand, and two threads on one frontier and on two.
 ghost use Rattle.std.specs.Prelude.{◌≡◌, [], IfOk};
 ghost use Rattle.std.specs.Thread.{IsSync};
 ghost use Rattle.box_search.specs.Search.{IsGreatestKey};
 ghost use Rattle.frontier_turn.specs.Callers.{IsOwn};
 
+use super::shards::split_search_by_two;
 use super::{BELOW, RIGHT, chance_numbers};
 use crate::{Table, take_lease, work, work_off};
 use box_search::{Alone, Searcher, Space, Take};
@@ -92,12 +93,14 @@ fn two_threads_find_the_greatest_key(rt: HostRuntime) -> Result<(), Fail> {
     let numbers = chance_numbers();
     let keys = Table::new(&numbers);
     let greatest = Alone.best(rt.alloc(), &keys)?;
+    let wanted = Closed {
+        word: greatest,
+        waiting: 0,
+        leased: 0,
+    };
     for _ in 0..100 {
-        let closed = search_by_two(&rt, rt.alloc(), &keys)?;
-        assert_eq!(rt;
-            (closed.word, closed.waiting, closed.leased),
-            (greatest, 0, 0)
-        );
+        assert_eq!(rt; search_by_two(&rt, rt.alloc(), &keys)?, wanted);
+        assert_eq!(rt; split_search_by_two(&rt, rt.alloc(), &keys)?, wanted);
     }
     Ok(())
 }

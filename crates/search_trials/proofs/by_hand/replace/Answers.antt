@@ -1,5 +1,3 @@
-use Rattle.std.proofs.Common.{sym, subst, List, ℤ}
-use Rattle.frontier_turn.specs.Holding.{Replaces}
 use Rattle.search_trials.proofs.Replacing.{splits_whole}
 use Rattle.search_trials.proofs.by_hand.replace.Goals as goal
 
@@ -8,5 +6,4 @@ returns-in-Split-clause-replaces g c =
     let S = g.S.Space in
     let asked = S.problem c.args.space.now in
     let splits = rw c.in-Split.is at c.in_ok-key.ensures.step in
-    subst (λ (p : List ℤ). Replaces (S.admits p) (S.lies_in p) c.args.node.now.shape c.read.result c.in-Split.nodes.items) (sym c.requires.space)
-    (splits_whole (S.admits asked) (S.lies_in asked) (S.fits asked) c.args.node.now c.read.result c.in-Split.nodes.items splits)
+    splits_whole (S.admits asked) (S.lies_in asked) (S.fits asked) c.args.node.now c.read.result c.in-Split.nodes.items splits

@@ -19,10 +19,8 @@ swap-requires g c =
     let p = S.problem c.self.inside.table.shared.key in
     let own = rw (← c.self.view_is, ← c.pass.view_is) at c.requires.own in
     let there = rw (← c.self.view_is) at c.requires.there in
-    let inv = c.self.invariant in
-    let words = inv.words in
-    let slots = inv.slots in
-    (own.0, omega arith, takes_the_turn p (S.admits p) (S.lies_in p) S.fits _ _ _ own.1 c.pass.invariant.live c.args.shard c.pass.invariant.idle (omega arith) _ 1 0 (omega arith))
+    let counts = c.self.invariant in
+    (own.0, omega (arith, counts.words, there), takes_the_turn p (S.admits p) (S.lies_in p) S.fits _ _ _ own.1 c.pass.invariant.live c.args.shard c.pass.invariant.idle (omega (arith, counts.slots, there)) _ 1 0 (omega arith))
 
 pub invariant_of-result : goal.invariant_of-result
 invariant_of-result g c =

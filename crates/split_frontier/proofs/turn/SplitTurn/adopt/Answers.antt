@@ -1,44 +1,19 @@
-use Rattle.std.proofs.Common.{◌≡◌, ◌∷◌, ◌≤◌, ◌≢◌, refl, ap, sym, ◌∙◌, subst, List, ℤ, All, Contains}
-use Rattle.frontier_turn.specs.Holding.{Replaces}
-use Rattle.split_frontier.specs.Claims.{claims_after, unspent, without}
-use Rattle.split_frontier.specs.Holding.{ShardHold, Spends}
-use Rattle.split_frontier.specs.Steps.{MayReturn}
-use Rattle.split_frontier.proofs.Leases.{differ_now, adopted}
-use Rattle.split_frontier.proofs.Named.{parted}
-use Rattle.split_frontier.proofs.Turns.{goes_on}
+use Rattle.std.proofs.Common.{◌∷◌, ◌∙◌}
+use Rattle.split_frontier.proofs.InTurn.{adopted_here, spends_here}
 use Rattle.split_frontier.proofs.turn.SplitTurn.adopt.Goals as goal
 
 pub invariant_of-self-2 : goal.invariant_of-self-2
 invariant_of-self-2 g c =
     let S = g.S.Space in
-    let p = S.problem c.self.inside.table.now.key in
-    let inv = c.self.invariant in
-    let v = c.self.inside.seat.me.0 in
-    let shard = c.self.inside.shard in
-    let cs = claims_after v.rest.leases c.self.inside.naming in
-    let is_named = subst (λ (t : ShardHold g.row.S-Work.Denot). Contains t.leases (unspent c.args.home c.args.lease.now)) (sym c.self.view_is) c.requires.named in
     let laws = g.met.S.Space g.world.𝓛 g.world.𝓜 g.world.𝓡 ((λ s a. a), (λ h. h), (λ n. n), (λ h. h)) in
-    let same : c.args.self.now.view.rest.problem ≡ p = ap (λ (t : ShardHold g.row.S-Work.Denot). t.view.rest.problem) (sym c.self.view_is) ∙ inv.problem_is in
-    let low : c.args.seen ≤ v.seen = subst (λ (t : ShardHold g.row.S-Work.Denot). c.args.seen ≤ t.view.seen) (sym c.self.view_is) c.requires.seen in
-    let fit = subst (λ (q : List ℤ). All (S.fits q) c.args.nodes.items) same c.requires.fits in
-    let replaces = subst (λ (q : List ℤ). Replaces (S.admits q) (S.lies_in q) c.args.lease.now.node.shape c.args.seen c.args.nodes.items) same c.requires.replaces in
+    let before = c.self.inside.seat.me.0.rest.leases in
+    let now = c.name.ensures.named before ∙ (λ i. c.claim.ensures.claim i ∷ c.unname.ensures.unnamed before i) in
     let step = c.in_ok-add.ensures.ok in
-    let foreign = subst (λ (t : ShardHold g.row.S-Work.Denot). c.args.home ≢ t.shard) (sym c.self.view_is) c.requires.foreign in
-    let named = c.name.ensures.named v.rest.leases ∙ (λ i. c.claim.ensures.claim i ∷ c.unname.ensures.unnamed v.rest.leases i) in
-    goes_on p (S.admits p) (S.lies_in p) (S.fits p) _ _ _ _ c.self.inside.frontier c.add.new.self _ _ inv
-    (subst (MayReturn (S.admits p) (S.lies_in p) (S.fits p) v shard c.add.new.self) (sym named)
-    (adopted (S.admits p) (S.lies_in p) (S.fits p) v shard inv.leased inv.differ (laws.bounded p) c.self.inside.frontier c.add.new.self cs c.args.lease.now c.args.nodes.items c.args.seen inv.may_return low fit replaces step.opened c.args.home foreign is_named step.leased))
+    adopted_here S.admits S.lies_in S.fits c.self.invariant c.self.view_is (laws.bounded _) c.add.new.self c.name.new.self c.args.lease.now c.args.nodes.items c.args.seen c.requires.seen c.requires.fits c.requires.replaces step.opened
+    c.args.home c.requires.foreign c.requires.named now step.leased
 
 pub returns-clause-spends : goal.returns-clause-spends
 returns-clause-spends g c =
     let S = g.S.Space in
-    let p = S.problem c.self.inside.table.now.key in
-    let inv = c.self.invariant in
-    let v = c.self.inside.seat.me.0 in
-    let shard = c.self.inside.shard in
-    let cs = claims_after v.rest.leases c.self.inside.naming in
-    let is_named = subst (λ (t : ShardHold g.row.S-Work.Denot). Contains t.leases (unspent c.args.home c.args.lease.now)) (sym c.self.view_is) c.requires.named in
-    let named = c.name.ensures.named v.rest.leases ∙ (λ i. c.claim.ensures.claim i ∷ c.unname.ensures.unnamed v.rest.leases i) in
-    subst (λ (t : ShardHold g.row.S-Work.Denot). Spends t.leases c.args.home c.args.lease.now (claims_after v.rest.leases c.name.new.self)) c.self.view_is
-    (subst (Spends cs c.args.home c.args.lease.now) (sym named)
-    (without c.args.home c.args.lease.now.number cs, parted cs (unspent c.args.home c.args.lease.now) is_named (differ_now (S.admits p) (S.lies_in p) (S.fits p) v shard inv.leased inv.differ c.self.inside.frontier cs inv.may_return), refl))
+    let before = c.self.inside.seat.me.0.rest.leases in
+    spends_here S.admits S.lies_in S.fits c.self.invariant c.self.view_is c.args.home c.args.lease.now c.name.new.self c.requires.named (c.name.ensures.named before ∙ (λ i. c.claim.ensures.claim i ∷ c.unname.ensures.unnamed before i))

@@ -34,20 +34,14 @@ swap-requires g c =
 
 pub invariant_of-result : goal.invariant_of-result
 invariant_of-result g c =
-    let inv = c.self.invariant in
-    let v = c.self.inside.seat.me.0 in
-    let shard = c.self.inside.shard in
     let P : Parked g.row.S-Work.Denot = record { frontier = c.self.inside.frontier; naming = c.of-naming.result } in
-    let me_is = ◌∙◌ {A = Seated g.row.S-Work.Denot} {a = c.exchange.new.seat.me} {b = (v, (shard, Some P) ∷ rest c.self.inside.seat.me.1)} {c = (v, (shard, Some P) ∷ [])} c.exchange.ensures.3 (ap (λ l. (v, (shard, Some P) ∷ rest l)) inv.carried) in
-    (left v shard P c.exchange.new.seat.me c.swap.new.seat.me me_is (c.swap.ensures.2 shard (omega arith)) inv.live).0
+    (left P c.exchange.ensures.3 c.self.invariant.carried (c.swap.ensures.2 c.self.inside.shard (omega arith)) c.self.invariant.live).0
 
 pub returns-clause-view : goal.returns-clause-view
 returns-clause-view g c =
-    let inv = c.self.invariant in
     let v = c.self.inside.seat.me.0 in
     let shard = c.self.inside.shard in
     let P : Parked g.row.S-Work.Denot = record { frontier = c.self.inside.frontier; naming = c.of-naming.result } in
-    let me_is = ◌∙◌ {A = Seated g.row.S-Work.Denot} {a = c.exchange.new.seat.me} {b = (v, (shard, Some P) ∷ rest c.self.inside.seat.me.1)} {c = (v, (shard, Some P) ∷ [])} c.exchange.ensures.3 (ap (λ l. (v, (shard, Some P) ∷ rest l)) inv.carried) in
-    (left v shard P c.exchange.new.seat.me c.swap.new.seat.me me_is (c.swap.ensures.2 shard (omega arith)) inv.live).1
+    (left P c.exchange.ensures.3 c.self.invariant.carried (c.swap.ensures.2 shard (omega arith)) c.self.invariant.live).1
     ∙ (ap (λ (n : Naming). leaves_turn v shard (snapshot_of P.frontier) (claims_after v.rest.leases n)) c.of-naming.ensures
     ∙ ap (λ (t : ShardHold g.row.S-Work.Denot). leaves_turn t.view t.shard (snapshot_of t.frontier) t.leases) c.self.view_is)
