@@ -1,5 +1,5 @@
 -- What takes the place of a node that was split.
-use Rattle.std.proofs.Common.{ℕ, ◌<◌, ◌≤◌, List}
+use Rattle.std.proofs.Common.{ℕ, List}
 use Rattle.box_search.specs.Leasing.{above}
 use Rattle.box_search.specs.Search.{Splits, BoundsKeys}
 use Rattle.box_search.specs.declared.space.Node.{Node}

@@ -1,22 +1,24 @@
 //! The search by several workers.
 ghost use Rattle.std.specs.Prelude.{◌≡◌, ◌+◌, ◌≤◌, [], IfOk};
 ghost use Rattle.std.specs.Thread.{IsSync};
-ghost use Rattle.box_search.specs.Search.{IsGreatestKey};
-ghost use Rattle.frontier_turn.specs.Callers.{IsOwn};
+ghost use Rattle.box_search.specs.Search.{IsSound, IsGreatestKey};
+ghost use Rattle.split_frontier.specs.Callers.{IsOwn};
 
 use crate::crew::Crew;
 use crate::gate::Gate;
-use box_search::{Alone, Searcher, Space};
+use crate::working::Ended;
+use box_search::Space;
 use crossbeam_utils::sync::EventCount;
-use frontier_turn::{Pass, Shared, each_step_keeps_the_rule};
+use frontier_turn::Closed;
 use layout_limits::{MAX_WORKERS, OutOfMemory};
+use split_frontier::{Shards, SplitPass, each_step_keeps_the_rule};
 use std::alloc::Global;
 use std::marker::{Model, PhantomData};
 use std::sync::Wait;
 use std::thread::{Threads, join};
 
-/// A search by several workers on one frontier, each in a thread of its own, or one after the other where no thread can
-/// be made. Each worker passes a gate before each of its turns.
+/// A search by several workers, each with a frontier of its own and in a thread of its own, or one after the other where
+/// no thread can be made. Each worker passes a gate before each of its turns.
 ///
 /// Contracts see how many workers there are.
 #[derive(Drop)]
@@ -50,34 +52,61 @@ impl<'g, R: Threads + Wait + Sync, G: Gate> Workers<'g, R, G> {
         }
     }
 
-    /// The greatest admitted key, or 0 exactly where no key is admitted, or want of memory, for every schedule. Where a
-    /// worker is refused memory its lease goes back, and after that the search may be asked for again. It may wait; what
-    /// it promises holds if it returns. What the workers share meets the rule of the shared search between any two of
-    /// their steps: `frontier_turn::each_step_keeps_the_rule` states it.
+    /// Searches a space with a frontier for each worker, and answers how the search stood as it was closed: the word, which
+    /// is 0 or an admitted key, how many nodes were still open, and that none was leased. Where none was open the word is
+    /// the greatest admitted key, or 0 exactly where no key is admitted. Nodes are still open only where a worker was
+    /// refused memory, whose lease went back; after that the search may be asked for again.
     ///
-    /// A single worker searches on this thread as `Alone` does, and passes no gate.
-    pub fn best<S: Space>(&mut self, alloc: Global, run: &R, space: &S) -> Result<u64, OutOfMemory>
+    /// It may wait; what it promises holds if it returns, for every schedule. What the workers share meets the rule of
+    /// the split search between any two of their steps: `split_frontier::each_step_keeps_the_rule` states it.
+    ///
+    /// # Errors
+    ///
+    /// Want of memory, where the search could not begin.
+    pub fn run<S: Space>(
+        &mut self,
+        alloc: Global,
+        run: &R,
+        space: &S,
+    ) -> Result<Closed, OutOfMemory>
         ensures count { self.new ≡ self.old }
-        ensures greatest { IfOk result (IsGreatestKey (S.admits (S.problem space.now))) }
+        ensures leased { IfOk result (λ closed. closed.leased ≡ 0) }
+        ensures sound { IfOk result (λ closed. IsSound (S.admits (S.problem space.now)) closed.word) }
+        ensures greatest { IfOk result (λ closed. closed.waiting ≡ 0 → IsGreatestKey (S.admits (S.problem space.now)) closed.word) }
     {
-        if self.count == 1 {
-            // One worker shares with nobody, so it searches as it would alone.
-            return Alone.best(alloc, space);
-        }
         each_step_keeps_the_rule::<S>();
         let root = space.root(alloc)?;
-        let (search, pass) = Shared::start(alloc, space, root)?;
+        let (shards, pass) = Shards::start(alloc, space, root, self.count)?;
         let news = EventCount::new();
         let crew = Crew {
             rt: run,
             space,
-            shared: &search,
+            shards: &shards,
+            count: self.count,
             gate: self.gate,
             news: &news,
         };
-        let pass = work_together(&crew, alloc, pass, 0, self.count);
-        let closed = search.close(pass);
-        if closed.waiting == 0 && closed.leased == 0 {
+        let Ended { pass, refused } = work_together(&crew, alloc, pass, 0, self.count);
+        let pass = if refused {
+            pass
+        } else {
+            // It has all parts now, so what it finds empty is empty: nobody else can open a node.
+            crew.work(alloc, 0, pass).pass
+        };
+        Ok(shards.close(pass))
+    }
+
+    /// The greatest admitted key, or 0 exactly where no key is admitted, for every schedule: the word of `run`.
+    ///
+    /// # Errors
+    ///
+    /// Want of memory, where the search could not begin, or where nodes were still open as it was closed.
+    pub fn best<S: Space>(&mut self, alloc: Global, run: &R, space: &S) -> Result<u64, OutOfMemory>
+        ensures count { self.new ≡ self.old }
+        ensures greatest { IfOk result (IsGreatestKey (S.admits (S.problem space.now))) }
+    {
+        let closed = self.run(alloc, run, space)?;
+        if closed.waiting == 0 {
             Ok(closed.word)
         } else {
             Err(OutOfMemory)
@@ -89,19 +118,21 @@ impl<'g, R: Threads + Wait + Sync, G: Gate> Workers<'g, R, G> {
 fn work_together<S: Space, R: Threads + Wait + Sync, G: Gate>(
     crew: &Crew<'_, '_, S, R, G>,
     alloc: Global,
-    pass: Pass<S>,
+    pass: SplitPass<S>,
     first: u32,
     count: u32,
-) -> Pass<S>
-    requires space { crew.now.shared.now.problem ≡ S.problem crew.now.space.now }
-    requires own { IsOwn crew.now.shared.now pass }
+) -> Ended<S>
+    requires shards { crew.now.count ≡ crew.now.shards.now.shards }
+    requires space { crew.now.shards.now.problem ≡ S.problem crew.now.space.now }
+    requires own { IsOwn crew.now.shards.now pass }
     requires unnamed { pass.view.rest.leases ≡ [] }
     requires some { 1 ≤ count }
-    requires numbers { first + count ≤ MAX_WORKERS }
+    requires numbers { first + count ≤ crew.now.count }
+    requires few { crew.now.count ≤ MAX_WORKERS }
     requires parts { count ≤ pass.view.rest.parts }
-    ensures own { IsOwn crew.now.shared.now result }
-    ensures parts { result.view.rest.parts ≡ pass.view.rest.parts }
-    ensures unnamed { result.view.rest.leases ≡ [] }
+    ensures own { IsOwn crew.now.shards.now result.pass }
+    ensures parts { result.pass.view.rest.parts ≡ pass.view.rest.parts }
+    ensures unnamed { result.pass.view.rest.leases ≡ [] }
 {
     if count == 1 {
         return crew.work(alloc, first, pass);
@@ -109,24 +140,33 @@ fn work_together<S: Space, R: Threads + Wait + Sync, G: Gate>(
     let others = count / 2;
     let mine = count - others;
     let mut pass = pass;
-    let other = crew.shared.split(&mut pass);
-    let (mut pass, other) = join(
+    let other = crew.shards.split(&mut pass);
+    let (ended, other) = join(
         crew.rt,
-        || -> Pass<S>
-            requires { IsSync R.row × (crew.now.shared.now.problem ≡ S.problem crew.now.space.now)
-                × IsOwn crew.now.shared.now pass × (pass.view.rest.leases ≡ [])
-                × (1 ≤ mine) × (first + mine ≤ MAX_WORKERS) × (mine ≤ pass.view.rest.parts) }
-            ensures { IsOwn crew.entry.now.shared.now result
-                × (result.view.rest.parts ≡ pass.view.rest.parts) × (result.view.rest.leases ≡ []) }
+        || -> Ended<S>
+            requires { IsSync R.row × (crew.now.count ≡ crew.now.shards.now.shards)
+                × (crew.now.shards.now.problem ≡ S.problem crew.now.space.now)
+                × IsOwn crew.now.shards.now pass × (pass.view.rest.leases ≡ [])
+                × (1 ≤ mine) × (first + mine ≤ crew.now.count) × (crew.now.count ≤ MAX_WORKERS)
+                × (mine ≤ pass.view.rest.parts) }
+            ensures { IsOwn crew.entry.now.shards.now result.pass
+                × (result.pass.view.rest.parts ≡ pass.view.rest.parts) × (result.pass.view.rest.leases ≡ []) }
         { work_together(crew, alloc, pass, first, mine) },
-        || -> Pass<S>
-            requires { IsSync R.row × (crew.now.shared.now.problem ≡ S.problem crew.now.space.now)
-                × IsOwn crew.now.shared.now other × (other.view.rest.leases ≡ [])
-                × (1 ≤ others) × (first + mine + others ≤ MAX_WORKERS) × (others ≤ other.view.rest.parts) }
-            ensures { IsOwn crew.entry.now.shared.now result
-                × (result.view.rest.parts ≡ other.view.rest.parts) × (result.view.rest.leases ≡ []) }
+        || -> Ended<S>
+            requires { IsSync R.row × (crew.now.count ≡ crew.now.shards.now.shards)
+                × (crew.now.shards.now.problem ≡ S.problem crew.now.space.now)
+                × IsOwn crew.now.shards.now other × (other.view.rest.leases ≡ [])
+                × (1 ≤ others) × (first + mine + others ≤ crew.now.count) × (crew.now.count ≤ MAX_WORKERS)
+                × (others ≤ other.view.rest.parts) }
+            ensures { IsOwn crew.entry.now.shards.now result.pass
+                × (result.pass.view.rest.parts ≡ other.view.rest.parts) × (result.pass.view.rest.leases ≡ []) }
         { work_together(crew, alloc, other, first + mine, others) },
     );
-    crew.shared.join(&mut pass, other);
-    pass
+    let Ended { pass, refused } = ended;
+    let mut pass = pass;
+    crew.shards.join(&mut pass, other.pass);
+    Ended {
+        pass,
+        refused: refused || other.refused,
+    }
 }

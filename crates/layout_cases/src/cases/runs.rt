@@ -128,16 +128,6 @@ fn two_columns(alloc: Global) -> Result<MemSource, Fail> {
 fn gate_test(rt: HostRuntime) -> Result<(), Fail> {
     let alloc = rt.alloc();
     let meeting = Meeting::new();
-    let outcome = run_shared(
-        &rt,
-        alloc,
-        &["--workers", "2"],
-        two_columns(alloc)?,
-        &meeting,
-    )?;
-    assert_eq!(rt; outcome.status, 0);
-    assert!(rt; meeting.took_place());
-    let meeting = Meeting::new();
     let words = ["--workers", "2", "--make", "7"];
     let outcome = run_shared(&rt, alloc, &words, failing_source(alloc)?, &meeting)?;
     assert!(rt; tells(&outcome, EACH_SEED));

@@ -1,13 +1,18 @@
 //! Searches by several workers over the white space of a page.
+ghost use Rattle.std.specs.Prelude.{◌≤◌};
+ghost use Rattle.layout_limits.specs.declared.TheConstants.{MAX_WORKERS};
+
 use super::pages::{RIGHT, Sides, corner_block, shape_of, white_of};
 use box_search::{Alone, Searcher};
 use chance::next_number;
 use layout_limits::OutOfMemory;
 use lease_workers::{OpenGate, Workers};
-use search_trials::{Meeting, StepsMeet, Watched};
+use search_trials::{Meeting, RefusesOnce, StepsMeet, Watched};
 use std::alloc::Global;
 use std::process::Abort;
+use std::sync::Wait;
 use std::test::Fail;
+use std::thread::Threads;
 use whitespace_cover::White;
 
 /// A box by chance of at most 16 by 16 pixels, within 240 by 240.
@@ -40,6 +45,40 @@ fn worker_counts(rt: HostRuntime) -> Result<(), Fail> {
             assert_eq!(rt; workers.best(alloc, &rt, &white)?, greatest, "{count}");
         }
     }
+    Ok(())
+}
+
+/// How a search by some workers stood as it was closed, of whose steps number 1 was refused memory: the word, and how many
+/// nodes were open and leased.
+fn refused_at_step_one<R: Threads + Wait + Sync>(
+    rt: &R,
+    alloc: Global,
+    count: u32,
+    white: &White,
+) -> Result<(u64, u64, u64), OutOfMemory>
+    requires counts { (1 ≤ count) × (count ≤ MAX_WORKERS) }
+{
+    let space = Watched {
+        space: white,
+        watcher: &RefusesOnce::after(1),
+    };
+    let closed = Workers::new(count, &OpenGate).run(alloc, rt, &space)?;
+    Ok((closed.word, closed.waiting, closed.leased))
+}
+
+#[test]
+fn memory_refused_at_step_one(rt: HostRuntime) -> Result<(), Fail> {
+    let alloc = rt.alloc();
+    let white = corner_block(&rt, alloc)?;
+    assert_eq!(rt; refused_at_step_one(&rt, alloc, 1, &white)?, (0, 2, 0));
+    assert_eq!(rt; refused_at_step_one(&rt, alloc, 2, &white)?, (RIGHT, 0, 0));
+    let space = Watched {
+        space: &white,
+        watcher: &RefusesOnce::after(1),
+    };
+    let mut worker = Workers::new(1, &OpenGate);
+    assert!(rt; worker.best(alloc, &rt, &space).is_err());
+    assert_eq!(rt; worker.best(alloc, &rt, &white)?, RIGHT);
     Ok(())
 }
 

@@ -1,11 +1,13 @@
-use Rattle.std.proofs.Common.{ap, ◌∙◌}
-use Rattle.frontier_turn.specs.declared.view.View.{View}
-use Rattle.frontier_turn.proofs.Working.{is_named, names_no_more}
+use Rattle.std.proofs.Common.{◌∙◌, ap, false}
+use Rattle.split_frontier.specs.declared.view.View.{View}
+use Rattle.split_frontier.specs.Claims.{unspent}
+use Rattle.split_frontier.proofs.Working.{none_left}
+use Rattle.lease_workers.proofs.Turning.{named_there}
 use Rattle.lease_workers.proofs.crew.Crew.give_up.Goals as goal
 
 pub reopen-requires-clause-named : goal.reopen-requires-clause-named
-reopen-requires-clause-named g c κs within = is_named c.enter-turn.result c.args.lease c.args.pass.view.rest.leases c.enter-turn.ensures.leases c.requires.named
+reopen-requires-clause-named g c κs within = named_there c.enter-turn.result.leases c.enter-turn.result.shard c.args.home c.args.lease false c.enter-turn.ensures.shard (c.enter-turn.ensures.leases ∙ c.requires.named)
 
 pub returns-clause-unnamed : goal.returns-clause-unnamed
 returns-clause-unnamed g c = ap (λ (v : View). v.rest.leases) c.leave.ensures.view
-    ∙ names_no_more c.enter-turn.result c.reopen.new.self c.args.lease c.args.pass.view.rest.leases c.enter-turn.ensures.leases c.requires.named c.reopen.ensures.names
+    ∙ none_left c.enter-turn.result.leases c.reopen.new.self.leases (unspent c.args.home c.args.lease) (unspent c.enter-turn.result.shard c.args.lease) (c.enter-turn.ensures.leases ∙ c.requires.named) c.reopen.ensures.names

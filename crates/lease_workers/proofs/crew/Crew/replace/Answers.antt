@@ -12,11 +12,11 @@ returns-in-Split-clause-fits g c =
     let S = g.S.Space in
     let W = g.row.S-Work.Denot in
     let asked = S.problem c.args.self.now.space.now in
-    let word = c.read-word-in-Split.result in
+    let word = c.read-seen-in-Split.result in
     let kept : List (Node W) = above word c.in-Split.nodes.items in
     let splits = rw c.in-Split.is at c.in_ok-key.ensures.step in
     let fitting = All-filter (λ (node : Node W). nat_lt word node.bound) (S.fits asked) c.in-Split.nodes.items splits.fitting in
-    subst (λ (nodes : List (Node W)). All (S.fits c.args.self.now.shared.now.problem) nodes) (sym c.keep_above.ensures.above)
+    subst (λ (nodes : List (Node W)). All (S.fits c.args.self.now.shards.now.problem) nodes) (sym c.keep_above.ensures.above)
     (subst (λ (p : List ℤ). All (S.fits p) kept) (sym c.requires.space) fitting)
 
 pub returns-in-Split-clause-replaces : goal.returns-in-Split-clause-replaces
@@ -25,9 +25,9 @@ returns-in-Split-clause-replaces g c =
     let W = g.row.S-Work.Denot in
     let asked = S.problem c.args.self.now.space.now in
     let laws = g.met.S.Space g.world.𝓛 g.world.𝓜 g.world.𝓡 ((λ s a. a), (λ h. h), (λ n. n), (λ h. h)) in
-    let word = c.read-word-in-Split.result in
+    let word = c.read-seen-in-Split.result in
     let kept : List (Node W) = above word c.in-Split.nodes.items in
     let splits = rw c.in-Split.is at c.in_ok-key.ensures.step in
     let replaced = splits_above (S.admits asked) (S.lies_in asked) (S.fits asked) (laws.bounded asked) c.args.node.now word c.in-Split.nodes.items splits in
-    subst (λ (nodes : List (Node W)). Replaces (S.admits c.args.self.now.shared.now.problem) (S.lies_in c.args.self.now.shared.now.problem) c.args.node.now.shape word nodes) (sym c.keep_above.ensures.above)
+    subst (λ (nodes : List (Node W)). Replaces (S.admits c.args.self.now.shards.now.problem) (S.lies_in c.args.self.now.shards.now.problem) c.args.node.now.shape word nodes) (sym c.keep_above.ensures.above)
     (subst (λ (p : List ℤ). Replaces (S.admits p) (S.lies_in p) c.args.node.now.shape word kept) (sym c.requires.space) replaced)

@@ -1,0 +1,26 @@
+use Rattle.std.proofs.Common.{◌≡◌, sym, ap, ◌∙◌, subst, List, ℤ, false}
+use Rattle.frontier_turn.specs.Holding.{Replaces}
+use Rattle.split_frontier.specs.declared.view.View.{View}
+use Rattle.split_frontier.specs.Claims.{unspent}
+use Rattle.split_frontier.proofs.Working.{none_left}
+use Rattle.lease_workers.proofs.Turning.{named_there, named_again}
+use Rattle.lease_workers.proofs.crew.Crew.finish.Goals as goal
+
+pub finish-requires-clause-named : goal.finish-requires-clause-named
+finish-requires-clause-named g c κs within = named_there c.enter-turn.result.leases c.enter-turn.result.shard c.args.worker.now.own c.args.lease false (c.enter-turn.ensures.shard ∙ c.pass_gate.ensures) (c.enter-turn.ensures.leases ∙ c.requires.named)
+
+pub finish-requires-clause-replaces : goal.finish-requires-clause-replaces
+finish-requires-clause-replaces g c κs within =
+    let S = g.S.Space in
+    let same : c.enter-turn.result.view.rest.problem ≡ c.args.self.now.shards.now.problem = ap (λ (v : View). v.rest.problem) c.enter-turn.ensures.view.1 ∙ c.requires.own.1 in
+    subst (λ (q : List ℤ). Replaces (S.admits q) (S.lies_in q) c.args.lease.node.shape c.args.parts.seen c.args.parts.nodes.items) (sym same) c.requires.replaces
+
+pub lease_and_leave-take-requires-clause-unnamed : goal.lease_and_leave-take-requires-clause-unnamed
+lease_and_leave-take-requires-clause-unnamed g c κs within = none_left c.enter-turn.result.leases c.finish.new.self.leases (unspent c.args.worker.now.own c.args.lease) (unspent c.enter-turn.result.shard c.args.lease) (c.enter-turn.ensures.leases ∙ c.requires.named) c.in-Ok.ensures.names
+
+pub reopen-requires-clause-named : goal.reopen-requires-clause-named
+reopen-requires-clause-named g c κs within = named_again c.finish.new.self.leases c.finish.new.self.shard c.args.worker.now.own c.args.lease c.in-Err.unfinished.lease (c.finish.ensures.shard ∙ (c.enter-turn.ensures.shard ∙ c.pass_gate.ensures)) c.in-Err.ensures.lease_returned (c.in-Err.ensures.err_names ∙ (c.enter-turn.ensures.leases ∙ c.requires.named))
+
+pub returns-in-Err-clause-unnamed : goal.returns-in-Err-clause-unnamed
+returns-in-Err-clause-unnamed g c = ap (λ (v : View). v.rest.leases) c.leave-after.ensures.view
+    ∙ none_left c.finish.new.self.leases c.reopen.new.self.leases (unspent c.args.worker.now.own c.args.lease) (unspent c.finish.new.self.shard c.in-Err.unfinished.lease) (c.in-Err.ensures.err_names ∙ (c.enter-turn.ensures.leases ∙ c.requires.named)) c.reopen.ensures.names

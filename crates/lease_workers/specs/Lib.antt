@@ -1,0 +1,2 @@
+-- What a worker finds as it goes round the shards.
+pub mod Finding
