@@ -1,7 +1,6 @@
 //! Split searches that are closed at once or worked by hand, and one by two threads.
-ghost use Rattle.std.specs.Prelude.{◌≡◌, ◌≢◌, ◌<◌, ◌≤◌, ◌∷◌, [], IfOk};
+ghost use Rattle.std.specs.Prelude.{◌≡◌, ◌≢◌, ◌<◌, ◌≤◌, ◌∷◌, []};
 ghost use Rattle.std.specs.Thread.{IsSync};
-ghost use Rattle.box_search.specs.Search.{IsGreatestKey};
 ghost use Rattle.layout_limits.specs.declared.TheConstants.{MAX_WORKERS};
 ghost use Rattle.split_frontier.specs.Callers.{IsOwn};
 ghost use Rattle.split_frontier.specs.Claims.{unspent, spent};
@@ -241,27 +240,24 @@ fn work_by_two<S: Space, R: Threads + Wait + Sync>(
     )
 }
 
-/// Searches with two threads, each with a shard of its own.
-pub(super) fn split_search_by_two<S: Space, R: Threads + Wait + Sync>(
+/// Searches a table with two threads, each with a shard of its own.
+pub(super) fn split_search_by_two<R: Threads + Wait + Sync>(
     rt: &R,
     alloc: Global,
-    space: &S,
-) -> Result<Closed, OutOfMemory>
-    ensures greatest { let p = S.problem space.now in
-        IfOk result (λ closed. closed.waiting ≡ 0 → closed.leased ≡ 0 → IsGreatestKey (S.admits p) closed.word) }
-{
-    let root = space.root(alloc)?;
-    let (shards, mut first) = Shards::start(alloc, space, root, 2)?;
+    keys: &Table<'_>,
+) -> Result<Closed, OutOfMemory> {
+    let root = keys.root(alloc)?;
+    let (shards, mut first) = Shards::start(alloc, keys, root, 2)?;
     let second = shards.split(&mut first);
     let left = ShardHand {
         rt,
-        space,
+        space: keys,
         shards: &shards,
         own: 0,
     };
     let right = ShardHand {
         rt,
-        space,
+        space: keys,
         shards: &shards,
         own: 1,
     };
