@@ -9,7 +9,7 @@ use Rattle.layout_geom.specs.Sides.{AreSides}
 use Rattle.layout_geom.specs.Rectangles.{HasSides}
 use Rattle.components.specs.declared.place.Place.{Place}
 use Rattle.components.specs.declared.bounds.Bounds.{Bounds}
-use Rattle.components.specs.declared.row_runs.Run.{Run}
+use Rattle.components.specs.declared.placed_run.PlacedRun.{PlacedRun}
 use Rattle.components.specs.Connected.{IsConnected}
 use Rattle.components.specs.Around.{widened}
 use Rattle.components.specs.Runs.{first_of, last_of}
@@ -30,10 +30,10 @@ pub record IsTouched (S : Place → Type 0) (b : Bounds) : Type 0 where
   pub top : (p : Place) × S p × (p.y ≡ b.y0)
   pub bottom : (p : Place) × S p × (p.y + 1 ≡ b.y1)
 
-pub within_wider : (bounds : Bounds) (run : Run) (p : Place) → HasPlace bounds p → HasPlace (widened bounds run) p
+pub within_wider : (bounds : Bounds) (run : PlacedRun) (p : Place) → HasPlace bounds p → HasPlace (widened bounds run) p
 within_wider bounds run p has = record { from_left = omega (arith, has.from_left); to_right = omega (arith, has.to_right); from_top = omega (arith, has.from_top); to_bottom = omega (arith, has.to_bottom) }
 
-pub still_touched : (S : Place → Type 0) (bounds : Bounds) (run : Run) → run.x0 < run.x1 → S (first_of run) → S (last_of run) → IsTouched S bounds → IsTouched S (widened bounds run)
+pub still_touched : (S : Place → Type 0) (bounds : Bounds) (run : PlacedRun) → run.x0 < run.x1 → S (first_of run) → S (last_of run) → IsTouched S bounds → IsTouched S (widened bounds run)
 still_touched S bounds run some first last touched = record {
   left = elim (cases_lt run.x0 bounds.x0) [ inl less ↦ (first_of run, first, omega arith) | inr not_less ↦ ((touched.left).0, (touched.left).1, omega (arith, (touched.left).2)) ];
   right = elim (cases_lt bounds.x1 run.x1) [ inl more ↦ (last_of run, last, omega (arith, some)) | inr not_more ↦ ((touched.right).0, (touched.right).1, omega (arith, (touched.right).2)) ];

@@ -1,8 +1,6 @@
 pub mod Paths
 pub mod Spreading
 pub mod Bounding
-pub mod RowRuns
-pub mod RowWords
 pub mod RunTables
 pub mod RunWalk
 pub mod RowVisits

@@ -1,13 +1,15 @@
 -- The runs of one row that touch a run of a neighbouring row.
-use Rattle.std.proofs.Common.{◌≡◌, ◌<◌, ◌≤◌, ℕ, ◌+◌, Bool, List, length, get_or, inl, inr, subst, ◌∙◌, arith}
+use Rattle.std.proofs.Common.{◌≡◌, ◌<◌, ◌≤◌, ℕ, ◌+◌, ◌-◌, Bool, List, length, inl, inr, sym, ap, subst, ◌∙◌, arith}
 use Rattle.std.specs.Prelude.{slice_index}
 use Rattle.std.proofs.lemmas.Bool.{cases_lt}
-use Rattle.std.proofs.lemmas.List.{get_or_default}
-use Rattle.components.specs.declared.row_runs.Run.{Run}
-use Rattle.components.specs.Runs.{run_at, no_run, AreRunsInOrder, AreStarts, IsTouching, IsMarkedRun}
+use Rattle.page_runs.specs.Packed.{Packed, page_of, row_of}
+use Rattle.page_runs.specs.Runs.{run_at as of_row, AreApart}
+use Rattle.page_runs.specs.declared.row_runs.Run.{Run}
+use Rattle.components.specs.declared.placed_run.PlacedRun.{PlacedRun}
 use Rattle.components.specs.Reaching.{DoRise}
+use Rattle.components.specs.Runs.{run_at, placed, runs_of, IsListed, IsRunTable, AreRunsInOrder, AreStarts, IsTouching, IsMarkedRun}
 
-module _ (runs : List Run) (starts : List ℕ) (in_order : AreRunsInOrder runs) (are : AreStarts runs starts) (row : ℕ) (within : row + 1 < length starts) where
+module _ (runs : List PlacedRun) (starts : List ℕ) (in_order : AreRunsInOrder runs) (are : AreStarts runs starts) (row : ℕ) (within : row + 1 < length starts) where
   last_within : slice_index starts (row + 1) ≤ length runs
   last_within = are.within (row + 1) within
 
@@ -43,11 +45,8 @@ module _ (runs : List Run) (starts : List ℕ) (in_order : AreRunsInOrder runs) 
     | inr left ↦ left.1
   ]
 
-  pub rise : DoRise runs (slice_index starts row) (slice_index starts (row + 1))
-  rise i j from less to = omega (arith, left_of i j from less to, in_order.some j (omega (arith, to, last_within)))
-
   -- the runs that were passed are marked; those left of them and right of them do not touch
-  pub all_visited : (run : Run) (marks : List Bool) (first next : ℕ)
+  pub all_visited : (run : PlacedRun) (marks : List Bool) (first next : ℕ)
       → ((i : ℕ) → slice_index starts row ≤ i → i < first → (run_at runs i).x1 < run.x0)
       → ((i : ℕ) → first ≤ i → i < next → IsMarkedRun marks i)
       → ((i : ℕ) → next ≤ i → i < slice_index starts (row + 1) → run.x1 < (run_at runs i).x0)
@@ -60,40 +59,54 @@ module _ (runs : List Run) (starts : List ℕ) (in_order : AreRunsInOrder runs) 
     ]
   ]
 
-  -- where one run begins right of a column, so do the next ones
-  pub all_right : (x first : ℕ) → slice_index starts row ≤ first → x < (run_at runs first).x0
-      → (i : ℕ) → first ≤ i → i < slice_index starts (row + 1) → x < (run_at runs i).x0
-  all_right x first from right i after to = elim (cases_lt first i) [
-    | inl less ↦ omega (arith, right, in_order.some first (omega (arith, less, to, last_within)), left_of first i from less to)
-    | inr at ↦ let e : first ≡ i = omega (arith, at, after) in subst (λ (k : ℕ). x < (run_at runs k).x0) e right
-  ]
+-- ---- the runs of a row as the page gives them
 
-read_start : (starts : List ℕ) (v n : ℕ) → n ≡ get_or starts v n → v < length starts → n ≡ slice_index starts v
-read_start starts v n is below = is ∙ get_or_default starts v n 0 below
+-- their right ends do not fall
+pub rise : (width : ℕ) (row : List Run) → AreApart width row → DoRise row 0 (length row)
+rise width row apart i j from less to = omega (arith, apart.apart i j less to, apart.some j to)
 
--- where the runs of a row begin and end, as these are read from the table
-pub record AreEnds (runs : List Run) (starts : List ℕ) (row from to : ℕ) : Type 0 where
-  pub row_there : row + 1 < length starts
-  pub start : from ≡ slice_index starts row
-  pub end : to ≡ slice_index starts (row + 1)
-  pub order : from ≤ to
-  pub last : to ≤ length runs
+-- where one run begins right of a column, so do the next ones
+pub all_right : (width : ℕ) (row : List Run) (x first : ℕ) → AreApart width row → first < length row → x < (of_row row first).x0
+    → (k : ℕ) → first ≤ k → k < length row → x < (of_row row k).x0
+all_right width row x first apart below right k from to = elim (cases_lt first k) [
+  | inl less ↦ omega (arith, right, apart.some first below, apart.apart first k less to)
+  | inr at ↦ let e : first ≡ k = omega (arith, at, from) in subst (λ (i : ℕ). x < (of_row row i).x0) e right
+]
 
-pub ends_read : (runs : List Run) (starts : List ℕ) (row from to : ℕ) → AreRunsInOrder runs → AreStarts runs starts → row + 1 < length starts
-    → from ≡ get_or starts row from → to ≡ get_or starts (row + 1) to → AreEnds runs starts row from to
-ends_read runs starts row from to in_order are there from_is to_is =
-    let start = read_start starts row from from_is (omega (arith, there)) in
-    let end = read_start starts (row + 1) to to_is there in
-    record {
-      row_there = there;
-      start = start;
-      end = end;
-      order = omega (arith, start, end, row_order runs starts in_order are row there);
-      last = omega (arith, end, last_within runs starts in_order are row there);
-    }
+module _ (held : Packed) (starts : List ℕ) (table : IsRunTable held starts) (y : ℕ) (within : y < (page_of held).height)
+    (row : List Run) (is : row ≡ row_of held y) where
+  abbrev runs : List PlacedRun
+  runs = runs_of held
 
-pub read_run : (runs : List Run) (i : ℕ) (run : Run) → run ≡ get_or runs i run → i < length runs → run ≡ run_at runs i
-read_run runs i run is below = is ∙ get_or_default runs i run no_run below
+  abbrev start : ℕ
+  start = slice_index starts y
+
+  pub listed_at : (place : ℕ) → place < length row → IsListed runs starts (placed y place (of_row row place))
+  listed_at = subst (λ (l : List Run). (place : ℕ) → place < length l → IsListed runs starts (placed y place (of_row l place))) (sym is) (λ place. table.listed y place within)
+
+  pub row_end : slice_index starts (y + 1) ≡ start + length row
+  row_end = table.counted y within ∙ ap (λ (l : List Run). start + length l) (sym is)
+
+  -- a fact of a run of the row is one of the page's run of its number
+  each_of_row : (P : PlacedRun → Type 0) (i : ℕ) → start ≤ i → i < start + length row
+      → ((place : ℕ) → place < length row → start + place ≡ i → P (placed y place (of_row row place))) → P (run_at runs i)
+  each_of_row P i from to fact =
+      let place = i - start in
+      let e : start + place ≡ i = omega (arith, from) in
+      let there : place < length row = omega (arith, from, to) in
+      subst P ((listed_at place there).same ∙ ap (run_at runs) e) (fact place there e)
+
+  -- the runs that were passed are marked; those left of them and right of them do not touch
+  pub row_visited : (run : PlacedRun) (marks : List Bool) (first next : ℕ) → first ≤ length row
+      → ((k : ℕ) → 0 ≤ k → k < first → (of_row row k).x1 < run.x0)
+      → ((i : ℕ) → start + first ≤ i → i < start + next → IsMarkedRun marks i)
+      → ((k : ℕ) → next ≤ k → k < length row → run.x1 < (of_row row k).x0)
+      → (i : ℕ) → i < length runs → (run_at runs i).row ≡ y → IsTouching run (run_at runs i) → IsMarkedRun marks i
+  row_visited run marks first next few left passed right =
+      all_visited runs starts table.are_runs.in_order table.are_starts y (omega (arith, within, table.len)) run marks (start + first) (start + next)
+      (λ i from to. each_of_row (λ r. r.x1 < run.x0) i from (omega (arith, to, few)) (λ place there at. left place (omega arith) (omega (arith, at, to))))
+      passed
+      (λ i from to. each_of_row (λ r. run.x1 < r.x0) i (omega (arith, from)) (omega (arith, to, row_end)) (λ place there at. right place (omega (arith, at, from)) there))
 
 pub passed_more : (marks next : List Bool) (from i : ℕ) → ((k : ℕ) → from ≤ k → k < i → IsMarkedRun marks k) → ((k : ℕ) → IsMarkedRun marks k → IsMarkedRun next k) → IsMarkedRun next i
     → (k : ℕ) → from ≤ k → k < i + 1 → IsMarkedRun next k

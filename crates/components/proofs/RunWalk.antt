@@ -2,29 +2,28 @@
 use Rattle.std.proofs.Common.{◌≡◌, ◌≢◌, ◌<◌, ◌≤◌, ℕ, ◌+◌, Bool, true, false, not, cond, List, [], ◌∷◌, ◌++◌, length, get_or, set, ◌⊎◌, inl, inr, refl, sym, ap, subst, ◌∙◌, arith}
 use Rattle.std.specs.Prelude.{Contains, Option, Some, None, MatchOption}
 use Rattle.std.proofs.lemmas.Bool.{cases_order}
-use Rattle.std.proofs.lemmas.List.{get_or-set_same, get_or-set_other, length-set, length-append}
+use Rattle.std.proofs.lemmas.List.{get_or-set_same, get_or-set_other, length-set, length-append, length-map, map-append}
 use Rattle.std.proofs.lemmas.List.Sums.{sum_by-set}
 use Rattle.std.proofs.lemmas.List.Elements.{Contains-push, Contains-push_cases, Contains-append_left}
 use Rattle.page_runs.specs.Page.{Page, IsPageSize}
 use Rattle.components.specs.declared.place.Place.{Place}
-use Rattle.components.specs.declared.row_runs.Run.{Run}
+use Rattle.components.specs.declared.placed_run.PlacedRun.{PlacedRun}
 use Rattle.components.specs.declared.bounds.Bounds.{Bounds}
 use Rattle.components.specs.Connected.{IsBlack, IsConnected}
 use Rattle.components.specs.Around.{IsSmallRun, bounds_of, widened}
-use Rattle.components.specs.Runs.{IsInRun, run_at, first_of, last_of, place_behind, AreRuns, IsTouching, IsMarkedRun, IsSeen, GrowsRuns, IsTouchingAt, SpreadsOver}
+use Rattle.components.specs.Runs.{IsInRun, IsListed, AreListed, number_of, numbers, run_at, first_of, last_of, place_behind, AreRuns, IsTouching, IsMarkedRun, IsSeen, GrowsRuns, IsTouchingAt, SpreadsOver}
 use Rattle.components.proofs.Paths.{connected_itself, onwards}
 use Rattle.components.proofs.Bounding.{HasPlace, IsTouched, still_touched, within_wider}
-use Rattle.components.proofs.RowVisits.{read_run}
 use Rattle.components.proofs.Spreading.{IsWalking, IsStep, IsBlackRun, InRun, walks_on, walked, run_connected, touching_connected, near_touching}
 
 -- the place lies in a run that waits
-pub record IsWaiting (runs : List Run) (waiting : List ℕ) (p : Place) : Type 0 where
+pub record IsWaiting (runs : List PlacedRun) (waiting : List ℕ) (p : Place) : Type 0 where
   pub index : ℕ
   pub listed : Contains waiting index
   pub inside : IsInRun (run_at runs index) p
 
 -- what holds while the component of a first run is walked
-pub record IsRunWalking (page : Page) (runs : List Run) (first : ℕ) (before now : List Bool) (waiting : List ℕ) (bounds : Bounds) : Type 0 where
+pub record IsRunWalking (page : Page) (runs : List PlacedRun) (first : ℕ) (before now : List Bool) (waiting : List ℕ) (bounds : Bounds) : Type 0 where
   pub len : length now ≡ length runs
   pub walking : IsWalking page (first_of (run_at runs first)) (IsSeen runs before) (IsSeen runs now) (IsWaiting runs waiting) (HasPlace bounds)
   pub listed : (i : ℕ) → Contains waiting i → i < length runs
@@ -33,25 +32,25 @@ pub record IsRunWalking (page : Page) (runs : List Run) (first : ℕ) (before no
   pub begun : IsMarkedRun now first
   pub touched : IsTouched (IsConnected page (first_of (run_at runs first))) bounds
 
-pub first_in_run : (page : Page) (runs : List Run) (i : ℕ) → AreRuns page runs → i < length runs → IsInRun (run_at runs i) (first_of (run_at runs i))
+pub first_in_run : (page : Page) (runs : List PlacedRun) (i : ℕ) → AreRuns page runs → i < length runs → IsInRun (run_at runs i) (first_of (run_at runs i))
 first_in_run page runs i are below = record { level = refl; left = omega arith; right = are.in_order.some i below }
 
-last_in_run : (page : Page) (runs : List Run) (i : ℕ) → AreRuns page runs → i < length runs → IsInRun (run_at runs i) (last_of (run_at runs i))
+last_in_run : (page : Page) (runs : List PlacedRun) (i : ℕ) → AreRuns page runs → i < length runs → IsInRun (run_at runs i) (last_of (run_at runs i))
 last_in_run page runs i are below = let some = are.in_order.some i below in record { level = refl; left = omega (arith, some); right = omega (arith, some) }
 
-in_run_of : (run : Run) (p : Place) → IsInRun run p → InRun run.row run.x0 run.x1 p
+in_run_of : (run : PlacedRun) (p : Place) → IsInRun run p → InRun run.row run.x0 run.x1 p
 in_run_of run p in' = record { level = in'.level; left = in'.left; right = in'.right }
 
-black_run : (page : Page) (runs : List Run) (i : ℕ) → AreRuns page runs → i < length runs → IsBlackRun page (run_at runs i).row (run_at runs i).x0 (run_at runs i).x1
+black_run : (page : Page) (runs : List PlacedRun) (i : ℕ) → AreRuns page runs → i < length runs → IsBlackRun page (run_at runs i).row (run_at runs i).x0 (run_at runs i).x1
 black_run page runs i are below = record {
   in_column = (are.blacks i (first_of (run_at runs i)) below (first_in_run page runs i are below)).in_column;
   blacks = λ x left right. are.blacks i (record { x = x; y = (run_at runs i).row }) below (record { level = refl; left = left; right = right });
 }
 
-pub same_run : (page : Page) (runs : List Run) (i : ℕ) → AreRuns page runs → i < length runs → (p q : Place) → IsInRun (run_at runs i) p → IsInRun (run_at runs i) q → IsConnected page p q
+pub same_run : (page : Page) (runs : List PlacedRun) (i : ℕ) → AreRuns page runs → i < length runs → (p q : Place) → IsInRun (run_at runs i) p → IsInRun (run_at runs i) q → IsConnected page p q
 same_run page runs i are below p q p_in q_in = run_connected page (run_at runs i).row (run_at runs i).x0 (run_at runs i).x1 (black_run page runs i are below) p q (in_run_of (run_at runs i) p p_in) (in_run_of (run_at runs i) q q_in)
 
-next_run : (page : Page) (runs : List Run) (i j : ℕ) → AreRuns page runs → i < length runs → j < length runs → IsTouching (run_at runs i) (run_at runs j)
+next_run : (page : Page) (runs : List PlacedRun) (i j : ℕ) → AreRuns page runs → i < length runs → j < length runs → IsTouching (run_at runs i) (run_at runs j)
     → (p q : Place) → IsInRun (run_at runs i) p → IsInRun (run_at runs j) q → IsConnected page p q
 next_run page runs i j are below below2 touch p q p_in q_in =
     touching_connected page (run_at runs i).row (run_at runs i).x0 (run_at runs i).x1 (run_at runs j).row (run_at runs j).x0 (run_at runs j).x1
@@ -74,7 +73,7 @@ mark_cases marks s i m = elim (cases_order i s) [
       inl (sym (get_or-set_other marks s i true false ne) ∙ m)
 ]
 
-pub run_begins : (page : Page) (runs : List Run) (marks : List Bool) (start : ℕ) → AreRuns page runs → length marks ≡ length runs → start < length runs
+pub run_begins : (page : Page) (runs : List PlacedRun) (marks : List Bool) (start : ℕ) → AreRuns page runs → length marks ≡ length runs → start < length runs
     → ((p : Place) → IsConnected page (first_of (run_at runs start)) p → IsSeen runs marks p → ⊥)
     → IsRunWalking page runs start marks (set marks start true) ([] ++ start ∷ []) (bounds_of (run_at runs start))
 run_begins page runs marks start are len below apart =
@@ -118,7 +117,7 @@ run_begins page runs marks start are len below apart =
     }
 
 -- the sides with a run have all of the run
-run_within : (bounds : Bounds) (run : Run) (p : Place) → IsInRun run p → HasPlace (widened bounds run) p
+run_within : (bounds : Bounds) (run : PlacedRun) (p : Place) → IsInRun run p → HasPlace (widened bounds run) p
 run_within bounds run p p_in = record {
   from_left = omega (arith, p_in.left);
   to_right = omega (arith, p_in.right);
@@ -132,7 +131,7 @@ place_is p q same_x same_y =
     ap (λ (x : ℕ). at x p.y) same_x ∙ ap (λ (y : ℕ). at q.x y) same_y
 
 -- a run that begins where another ends would go on with it
-runs_apart : (page : Page) (runs : List Run) (i j : ℕ) → AreRuns page runs → i < j → j < length runs → (run_at runs j).row ≡ (run_at runs i).row → (run_at runs j).x0 ≤ (run_at runs i).x1 → ⊥
+runs_apart : (page : Page) (runs : List PlacedRun) (i j : ℕ) → AreRuns page runs → i < j → j < length runs → (run_at runs j).row ≡ (run_at runs i).row → (run_at runs j).x0 ≤ (run_at runs i).x1 → ⊥
 runs_apart page runs i j are less below level meets = elim (are.in_order.order i j less below) [
   | inl higher ↦ omega (arith, higher, level)
   | inr left ↦
@@ -141,7 +140,7 @@ runs_apart page runs i j are less below level meets = elim (are.in_order.order i
 ]
 
 -- a run touches no other one of its row
-same_row : (page : Page) (runs : List Run) (i j : ℕ) → AreRuns page runs → i < length runs → j < length runs → (run_at runs j).row ≡ (run_at runs i).row
+same_row : (page : Page) (runs : List PlacedRun) (i j : ℕ) → AreRuns page runs → i < length runs → j < length runs → (run_at runs j).row ≡ (run_at runs i).row
     → IsTouching (run_at runs i) (run_at runs j) → j ≡ i
 same_row page runs i j are below lt level touch = elim (cases_order j i) [
   | inl same ↦ same
@@ -152,7 +151,7 @@ same_row page runs i j are below lt level touch = elim (cases_order j i) [
 ]
 
 -- a place lies in one run
-pub one_run : (page : Page) (runs : List Run) (i j : ℕ) (p : Place) → AreRuns page runs → i < length runs → j < length runs → IsInRun (run_at runs i) p → IsInRun (run_at runs j) p → i ≡ j
+pub one_run : (page : Page) (runs : List PlacedRun) (i j : ℕ) (p : Place) → AreRuns page runs → i < length runs → j < length runs → IsInRun (run_at runs i) p → IsInRun (run_at runs j) p → i ≡ j
 one_run page runs i j p are i_below j_below in_i in_j = elim (cases_order i j) [
   | inl same ↦ same
   | inr other ↦ elim other [
@@ -176,7 +175,7 @@ runs_grew IsNew old mid new waiting waits still first second = record {
   same = second.same ∙ first.same;
 }
 
-pub run_goes_on : (page : Page) (runs : List Run) (begin : ℕ) (before now mid next : List Bool) (waiting left between waits : List ℕ) (bounds : Bounds) (i : ℕ)
+pub run_goes_on : (page : Page) (runs : List PlacedRun) (begin : ℕ) (before now mid next : List Bool) (waiting left between waits : List ℕ) (bounds : Bounds) (i : ℕ)
     → AreRuns page runs → IsRunWalking page runs begin before now waiting bounds → waiting ≡ left ++ i ∷ []
     → GrowsRuns (IsTouchingAt runs (run_at runs i)) now mid left between
     → ((j : ℕ) → j < length runs → (run_at runs j).row + 1 ≡ (run_at runs i).row → IsTouching (run_at runs i) (run_at runs j) → IsMarkedRun mid j)
@@ -233,7 +232,7 @@ run_goes_on page runs begin before now mid next waiting left between waits bound
       touched = still_touched (IsConnected page start) bounds run some (to_run (first_of run) first_there) (to_run last last_there) kept.touched;
     }
 
-pub run_ends : (page : Page) (runs : List Run) (begin : ℕ) (before now : List Bool) (waiting : List ℕ) (bounds : Bounds)
+pub run_ends : (page : Page) (runs : List PlacedRun) (begin : ℕ) (before now : List Bool) (waiting : List ℕ) (bounds : Bounds)
     → IsRunWalking page runs begin before now waiting bounds → length waiting ≡ 0
     → SpreadsOver page (first_of (run_at runs begin)) (IsSeen runs before) (IsSeen runs now) × ((p : Place) → IsConnected page (first_of (run_at runs begin)) p → HasPlace bounds p)
 run_ends page runs begin before now waiting bounds kept none =
@@ -283,27 +282,85 @@ grew_wider IsNew IsWider old new waiting waits wider grows = record {
   same = grows.same;
 }
 
-small_run : (page : Page) (runs : List Run) (i : ℕ) → AreRuns page runs → IsPageSize page.width page.height → i < length runs → IsSmallRun (run_at runs i)
+small_run : (page : Page) (runs : List PlacedRun) (i : ℕ) → AreRuns page runs → IsPageSize page.width page.height → i < length runs → IsSmallRun (run_at runs i)
 small_run page runs i are size below =
     let last = are.blacks i (last_of (run_at runs i)) below (last_in_run page runs i are below) in
     record { row = omega (arith, last.in_column, size.height_bound); right = omega (arith, last.in_row, size.width_bound); some = are.in_order.some i below }
 
--- what is known of a run that is read from the table
-pub record IsReadRun (runs : List Run) (i : ℕ) (run : Run) : Type 0 where
-  pub below : i < length runs
-  pub read : run ≡ run_at runs i
-  pub small : IsSmallRun run
+-- ---- the runs that wait, by their numbers
 
-pub run_read : (page : Page) (runs : List Run) (i : ℕ) (run : Run) → AreRuns page runs → IsPageSize page.width page.height → i < length runs → run ≡ get_or runs i run → IsReadRun runs i run
-run_read page runs i run are size below is =
-    let read = read_run runs i run is below in
-    record { below = below; read = read; small = subst IsSmallRun (sym read) (small_run page runs i are size below) }
+number_pushed : (starts : List ℕ) (waiting : List PlacedRun) (run : PlacedRun) → numbers starts (waiting ++ run ∷ []) ≡ numbers starts waiting ++ number_of starts run ∷ []
+number_pushed starts waiting run = map-append (number_of starts) waiting (run ∷ [])
 
-pub popped_below : (page : Page) (runs : List Run) (begin : ℕ) (before now : List Bool) (waiting left : List ℕ) (bounds : Bounds) (i : ℕ)
-    → IsRunWalking page runs begin before now waiting bounds → waiting ≡ left ++ i ∷ [] → i < length runs
-popped_below page runs begin before now waiting left bounds i kept popped = kept.listed i (subst (λ (l : List ℕ). Contains l i) (sym popped) (Contains-push left i))
+pub listed_small : (page : Page) (runs : List PlacedRun) (starts : List ℕ) (run : PlacedRun) → AreRuns page runs → IsPageSize page.width page.height → IsListed runs starts run → IsSmallRun run
+listed_small page runs starts run are size listed = subst IsSmallRun (sym listed.same) (small_run page runs (number_of starts run) are size listed.below)
 
-pub no_run_waits : (waiting : List ℕ) (n m : ℕ) (r : Option ℕ) → n ≡ length waiting
-    → MatchOption r ((n ≡ 0) × (m ≡ 0)) (λ _. m + 1 ≡ n) → ((i : ℕ) → r ≡ Some i → ⊥) → length waiting ≡ 0
+pub listed_row : (page : Page) (runs : List PlacedRun) (starts : List ℕ) (run : PlacedRun) → AreRuns page runs → IsListed runs starts run → run.row < page.height
+listed_row page runs starts run are listed = subst (λ (r : PlacedRun). r.row < page.height) (sym listed.same) (are.above (number_of starts run) listed.below)
+
+-- the run that was popped, and those that are left
+pub popped_listed : (runs : List PlacedRun) (starts : List ℕ) (waiting left : List PlacedRun) (run : PlacedRun) → AreListed runs starts waiting → waiting ≡ left ++ run ∷ [] → IsListed runs starts run
+popped_listed runs starts waiting left run listed popped = listed run (subst (λ (l : List PlacedRun). Contains l run) (sym popped) (Contains-push left run))
+
+pub left_listed : (runs : List PlacedRun) (starts : List ℕ) (waiting left : List PlacedRun) (run : PlacedRun) → AreListed runs starts waiting → waiting ≡ left ++ run ∷ [] → AreListed runs starts left
+left_listed runs starts waiting left run listed popped w w_in = listed w (subst (λ (l : List PlacedRun). Contains l w) (sym popped) (Contains-append_left left (run ∷ []) w w_in))
+
+pub one_listed : (runs : List PlacedRun) (starts : List ℕ) (run : PlacedRun) → IsListed runs starts run → AreListed runs starts ([] ++ run ∷ [])
+one_listed runs starts run listed w w_in = elim (Contains-push_cases [] run w w_in) [ inl none ↦ absurd (omega (arith, none.1)) | inr same ↦ subst (IsListed runs starts) same listed ]
+
+pub pushed_cases : (waiting : List PlacedRun) (run w : PlacedRun) → Contains (waiting ++ run ∷ []) w → Contains waiting w ⊎ (w ≡ run)
+pushed_cases waiting run w w_in = elim (Contains-push_cases waiting run w w_in) [ inl old ↦ inl old | inr same ↦ inr (sym same) ]
+
+pub more_listed : (runs : List PlacedRun) (starts : List ℕ) (old new : List PlacedRun) (run : PlacedRun) → AreListed runs starts old → IsListed runs starts run
+    → ((w : PlacedRun) → Contains new w → Contains old w ⊎ (w ≡ run)) → AreListed runs starts new
+more_listed runs starts old new run listed here only w w_in = elim (only w w_in) [ inl was ↦ listed w was | inr same ↦ subst (IsListed runs starts) (sym same) here ]
+
+pub listed_begins : (page : Page) (runs : List PlacedRun) (starts : List ℕ) (marks : List Bool) (first : PlacedRun) → AreRuns page runs → length marks ≡ length runs → IsListed runs starts first
+    → ((p : Place) → IsConnected page (first_of first) p → IsSeen runs marks p → ⊥)
+    → IsRunWalking page runs (number_of starts first) marks (set marks (number_of starts first) true) (numbers starts ([] ++ first ∷ [])) (bounds_of first)
+listed_begins page runs starts marks first are len listed apart =
+    let number = number_of starts first in
+    let apart_there = subst (λ (r : PlacedRun). (p : Place) → IsConnected page (first_of r) p → IsSeen runs marks p → ⊥) listed.same apart in
+    subst (λ (r : PlacedRun). IsRunWalking page runs number marks (set marks number true) (numbers starts ([] ++ first ∷ [])) (bounds_of r)) (sym listed.same)
+    (run_begins page runs marks number are len listed.below apart_there)
+
+pub listed_goes_on : (page : Page) (runs : List PlacedRun) (starts : List ℕ) (begin : ℕ) (before now mid next : List Bool) (waiting left between waits : List PlacedRun) (bounds : Bounds) (run : PlacedRun)
+    → AreRuns page runs → IsRunWalking page runs begin before now (numbers starts waiting) bounds → IsListed runs starts run → waiting ≡ left ++ run ∷ []
+    → GrowsRuns (IsTouchingAt runs run) now mid (numbers starts left) (numbers starts between)
+    → ((j : ℕ) → j < length runs → (run_at runs j).row + 1 ≡ run.row → IsTouching run (run_at runs j) → IsMarkedRun mid j)
+    → GrowsRuns (IsTouchingAt runs run) mid next (numbers starts between) (numbers starts waits)
+    → ((j : ℕ) → j < length runs → (run_at runs j).row ≡ run.row + 1 → IsTouching run (run_at runs j) → IsMarkedRun next j)
+    → IsRunWalking page runs begin before next (numbers starts waits) (widened bounds run)
+listed_goes_on page runs starts begin before now mid next waiting left between waits bounds run are kept listed popped =
+    let number = number_of starts run in
+    let in_numbers : numbers starts waiting ≡ numbers starts left ++ number ∷ [] = ap (numbers starts) popped ∙ number_pushed starts left run in
+    subst (λ (r : PlacedRun). GrowsRuns (IsTouchingAt runs r) now mid (numbers starts left) (numbers starts between)
+    → ((j : ℕ) → j < length runs → (run_at runs j).row + 1 ≡ r.row → IsTouching r (run_at runs j) → IsMarkedRun mid j)
+    → GrowsRuns (IsTouchingAt runs r) mid next (numbers starts between) (numbers starts waits)
+    → ((j : ℕ) → j < length runs → (run_at runs j).row ≡ r.row + 1 → IsTouching r (run_at runs j) → IsMarkedRun next j)
+    → IsRunWalking page runs begin before next (numbers starts waits) (widened bounds r)) (sym listed.same)
+    (run_goes_on page runs begin before now mid next (numbers starts waiting) (numbers starts left) (numbers starts between) (numbers starts waits) bounds number are kept in_numbers)
+
+pub listed_visited : (starts : List ℕ) (marks : List Bool) (waiting : List PlacedRun) (run : PlacedRun) → number_of starts run < length marks → get_or marks (number_of starts run) false ≡ false
+    → GrowsRuns (λ k. k ≡ number_of starts run) marks (set marks (number_of starts run) true) (numbers starts waiting) (numbers starts (waiting ++ run ∷ []))
+listed_visited starts marks waiting run below new =
+    subst (GrowsRuns (λ k. k ≡ number_of starts run) marks (set marks (number_of starts run) true) (numbers starts waiting)) (sym (number_pushed starts waiting run))
+    (run_visited marks (numbers starts waiting) (number_of starts run) below new)
+
+pub listed_ends : (page : Page) (runs : List PlacedRun) (starts : List ℕ) (first : PlacedRun) (before now : List Bool) (waiting : List PlacedRun) (bounds : Bounds)
+    → IsListed runs starts first → IsRunWalking page runs (number_of starts first) before now (numbers starts waiting) bounds → length waiting ≡ 0
+    → SpreadsOver page (first_of first) (IsSeen runs before) (IsSeen runs now) × ((p : Place) → IsConnected page (first_of first) p → HasPlace bounds p)
+listed_ends page runs starts first before now waiting bounds listed kept none =
+    let no_number : length (numbers starts waiting) ≡ 0 = length-map waiting (number_of starts) ∙ none in
+    subst (λ (r : PlacedRun). SpreadsOver page (first_of r) (IsSeen runs before) (IsSeen runs now) × ((p : Place) → IsConnected page (first_of r) p → HasPlace bounds p)) (sym listed.same)
+    (run_ends page runs (number_of starts first) before now (numbers starts waiting) bounds kept no_number)
+
+pub listed_touched : (page : Page) (runs : List PlacedRun) (starts : List ℕ) (first : PlacedRun) (before now : List Bool) (waiting : List ℕ) (bounds : Bounds)
+    → IsListed runs starts first → IsRunWalking page runs (number_of starts first) before now waiting bounds → IsTouched (IsConnected page (first_of first)) bounds
+listed_touched page runs starts first before now waiting bounds listed kept =
+    subst (λ (r : PlacedRun). IsTouched (IsConnected page (first_of r)) bounds) (sym listed.same) kept.touched
+
+pub no_run_waits : (waiting : List PlacedRun) (n m : ℕ) (r : Option PlacedRun) → n ≡ length waiting
+    → MatchOption r ((n ≡ 0) × (m ≡ 0)) (λ _. m + 1 ≡ n) → ((w : PlacedRun) → r ≡ Some w → ⊥) → length waiting ≡ 0
 no_run_waits waiting n m None len cases none = omega (arith, cases.0, len)
-no_run_waits waiting n m (Some i) len cases none = absurd (none i refl)
+no_run_waits waiting n m (Some w) len cases none = absurd (none w refl)

@@ -1,5 +1,5 @@
 -- Finding one component after the other.
-use Rattle.std.proofs.Common.{◌≡◌, ◌<◌, ℕ, zero, suc, Bool, false, replicate, List, [], ◌∷◌, ◌++◌, length, get_or, inl, inr, subst, ◌∙◌, arith}
+use Rattle.std.proofs.Common.{◌<◌, ℕ, zero, suc, Bool, false, replicate, List, [], ◌∷◌, ◌++◌, length, get_or, inl, inr, refl, sym, subst, ◌∙◌, arith}
 use Rattle.std.specs.Prelude.{Any}
 use Rattle.std.specs.List.{AllZip}
 use Rattle.std.proofs.lemmas.List.{get_or_append_left, length-append}
@@ -11,12 +11,12 @@ use Rattle.layout_geom.specs.Rectangles.{Encloses}
 use Rattle.components.specs.declared.place.Place.{Place}
 use Rattle.components.specs.Connected.{IsBlack, IsConnected}
 use Rattle.components.specs.Boxes.{IsBoxOf, IsLarge, IsKept}
-use Rattle.components.specs.declared.row_runs.Run.{Run}
-use Rattle.components.specs.Runs.{run_at, first_of, AreRuns, IsMarkedRun, IsSeen, SpreadsOver}
+use Rattle.components.specs.declared.placed_run.PlacedRun.{PlacedRun}
+use Rattle.components.specs.Runs.{IsInRun, IsListed, run_at, first_of, number_of, AreRuns, IsMarkedRun, IsSeen, SpreadsOver}
 use Rattle.components.specs.Scanning.{IsScanned}
 use Rattle.components.specs.Kept.{IsKeptBoxes}
 use Rattle.components.proofs.Paths.{connected_itself, onwards, connected_back, end_is_black}
-use Rattle.components.proofs.RunWalk.{one_run, first_in_run}
+use Rattle.components.proofs.RunWalk.{one_run}
 
 -- the box of one place is the box of each place that is connected with it
 pub box_moves : (page : Page) (p q : Place) (box : Rect) → IsConnected page p q → IsBoxOf page q box → IsBoxOf page p box
@@ -34,21 +34,23 @@ same_large page p box other is_box is_other large =
       | inr high ↦ inr (omega (arith, outer.top, outer.bottom, high))
     ]
 
--- no place of the component of a run without a mark was seen
-pub apart_from : (page : Page) (runs : List Run) (marks : List Bool) (boxes : List Rect) (i : ℕ) → AreRuns page runs → IsScanned page (IsSeen runs marks) boxes → i < length runs → (IsMarkedRun marks i → ⊥)
-    → (p : Place) → IsConnected page (first_of (run_at runs i)) p → IsSeen runs marks p → ⊥
-apart_from page runs marks boxes i are scanned below new p c seen =
-    let first = first_of (run_at runs i) in
-    let there = scanned.closed p first seen (connected_back page first p c) in
-    let same : there.index ≡ i = one_run page runs there.index i first are there.below below there.inside (first_in_run page runs i are below) in
-    new (subst (IsMarkedRun marks) same there.mark)
+-- a run that has its number among those of the page
+module _ (page : Page) (runs : List PlacedRun) (starts : List ℕ) (run : PlacedRun) (are : AreRuns page runs) (listed : IsListed runs starts run) where
+  inside_first : IsInRun (run_at runs (number_of starts run)) (first_of run)
+  inside_first = subst (λ (r : PlacedRun). IsInRun r (first_of run)) listed.same (record { level = refl; left = omega arith; right = subst (λ (r : PlacedRun). r.x0 < r.x1) (sym listed.same) (are.in_order.some (number_of starts run) listed.below) })
 
-pub unseen_first : (page : Page) (runs : List Run) (marks : List Bool) (i : ℕ) → AreRuns page runs → i < length runs → (IsMarkedRun marks i → ⊥) → IsSeen runs marks (first_of (run_at runs i)) → ⊥
-unseen_first page runs marks i are below new there =
-    new (subst (IsMarkedRun marks) (one_run page runs there.index i (first_of (run_at runs i)) are there.below below there.inside (first_in_run page runs i are below)) there.mark)
+  pub first_black : IsBlack page (first_of run)
+  first_black = are.blacks (number_of starts run) (first_of run) listed.below inside_first
 
-pub first_black : (page : Page) (runs : List Run) (i : ℕ) → AreRuns page runs → i < length runs → IsBlack page (first_of (run_at runs i))
-first_black page runs i are below = are.blacks i (first_of (run_at runs i)) below (first_in_run page runs i are below)
+  pub unseen_first : (marks : List Bool) → (IsMarkedRun marks (number_of starts run) → ⊥) → IsSeen runs marks (first_of run) → ⊥
+  unseen_first marks new there =
+      new (subst (IsMarkedRun marks) (one_run page runs there.index (number_of starts run) (first_of run) are there.below listed.below there.inside inside_first) there.mark)
+
+  -- no place of the component of a run without a mark was seen
+  pub apart_from : (marks : List Bool) (boxes : List Rect) → IsScanned page (IsSeen runs marks) boxes → (IsMarkedRun marks (number_of starts run) → ⊥)
+      → (p : Place) → IsConnected page (first_of run) p → IsSeen runs marks p → ⊥
+  apart_from marks boxes scanned new p c seen =
+      unseen_first marks new (scanned.closed p (first_of run) seen (connected_back page (first_of run) p c))
 
 zip_push : {A B : Type 0} (R : A → B → Type 0) (xs : List A) (ys : List B) (x : A) (y : B) → AllZip R xs ys → R x y → AllZip R (xs ++ x ∷ []) (ys ++ y ∷ [])
 zip_push R [] [] x y zip here = (here, tt)
@@ -114,7 +116,7 @@ scan_begins page seen none = record {
 }
 
 -- every run has its mark
-pub scan_ends : (page : Page) (runs : List Run) (marks : List Bool) (boxes : List Rect) → AreRuns page runs → IsScanned page (IsSeen runs marks) boxes → ((i : ℕ) → i < length runs → IsMarkedRun marks i) → IsKeptBoxes page boxes
+pub scan_ends : (page : Page) (runs : List PlacedRun) (marks : List Bool) (boxes : List Rect) → AreRuns page runs → IsScanned page (IsSeen runs marks) boxes → ((i : ℕ) → i < length runs → IsMarkedRun marks i) → IsKeptBoxes page boxes
 scan_ends page runs marks boxes are scanned all = record {
   places = scanned.places;
   are_kept = record {
@@ -127,7 +129,7 @@ scan_ends page runs marks boxes are scanned all = record {
 }
 
 -- a list without marks
-pub none_seen : (runs : List Run) (n : ℕ) (p : Place) → IsSeen runs (replicate n false) p → ⊥
+pub none_seen : (runs : List PlacedRun) (n : ℕ) (p : Place) → IsSeen runs (replicate n false) p → ⊥
 none_seen runs n p there = unmarked n there.index there.mark
   where
     unmarked : (n i : ℕ) → IsMarkedRun (replicate n false) i → ⊥

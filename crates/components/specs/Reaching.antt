@@ -1,7 +1,7 @@
 -- The runs of a row whose right ends do not fall, and the first of them that reaches a column.
 use Rattle.std.specs.Prelude.{ℕ, ◌<◌, ◌≤◌, List}
-use Rattle.components.specs.declared.row_runs.Run.{Run}
-use Rattle.components.specs.Runs.{run_at}
+use Rattle.page_runs.specs.declared.row_runs.Run.{Run}
+use Rattle.page_runs.specs.Runs.{run_at}
 
 -- the right ends of these runs do not fall
 abbrev pub DoRise : List Run → ℕ → ℕ → Type 0

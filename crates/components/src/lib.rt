@@ -6,11 +6,10 @@ mod bounds;
 mod flood;
 mod kept;
 mod place;
+mod placed_run;
 mod reaching;
-mod row_runs;
-mod row_words;
-mod run_table;
 mod scan;
+mod starts;
 #[cfg(test)]
 mod tests;
 

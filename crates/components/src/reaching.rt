@@ -2,7 +2,7 @@
 ghost use Rattle.std.specs.Prelude.{◌<◌, ◌≤◌, ◌+◌, ◌-◌, ℕ, length};
 ghost use Rattle.components.specs.Reaching.{DoRise, IsFirstReaching};
 
-use crate::row_runs::Run;
+use page_runs::Run;
 
 /// The first of the runs from `from` up to but not including `to` that ends at this column or right of it,
 /// by halving.

@@ -60,6 +60,7 @@ enum Shape {
     Speck,
     CornerBlock,
     TouchingCorners,
+    RunsAtCorners,
     RingInRing,
     FrameRoundText,
     Comb,
@@ -96,6 +97,7 @@ fn is_black(shape: Shape, x: u16, y: u16) -> bool {
         Shape::Speck => x / 2 == 3 && y / 2 == 3,
         Shape::CornerBlock => x < 3 && y < 3,
         Shape::TouchingCorners => x < 6 && y < 6 && x / 3 == y / 3,
+        Shape::RunsAtCorners => { (y == 0 && (x < 2 || x == 3 || x == 4)) || (y == 1 && x == 2) }
         Shape::RingInRing => ring == 3 || ring == 6,
         Shape::FrameRoundText => {
             x == 0 || y == 0 || x == 15 || y == 15 || (x / 3 == 2 && y / 4 == 1)
@@ -136,6 +138,7 @@ fn shapes_have_their_boxes(rt: HostRuntime) -> Result<(), Fail> {
     check(&rt, alloc, Shape::Speck, &[], 0)?;
     check(&rt, alloc, Shape::CornerBlock, &[[0, 0, 3, 3]], 3)?;
     check(&rt, alloc, Shape::TouchingCorners, &[[0, 0, 6, 6]], 6)?;
+    check(&rt, alloc, Shape::RunsAtCorners, &[[0, 0, 5, 2]], 2)?;
     check(
         &rt,
         alloc,

@@ -1,12 +1,15 @@
 -- Counting black pixels row by row.
-use Rattle.std.proofs.Common.{◌≡◌, ◌≢◌, ℕ, zero, suc, ◌+◌, ◌<◌, Bool, true, false, cond, eqb, ltb, ◌&&◌, List, [], ◌∷◌, ◌++◌, inl, inr, refl, sym, ap, ◌∙◌, arith}
+use Rattle.std.proofs.Common.{◌≡◌, ◌≢◌, ℕ, zero, suc, ◌+◌, ◌<◌, Bool, true, false, cond, eqb, ltb, ◌&&◌, List, [], ◌∷◌, ◌++◌, length, inl, inr, refl, sym, ap, ◌∙◌, arith}
 use Rattle.std.specs.Prelude.{sum_by, count_by}
-use Rattle.std.specs.List.{range_with_len}
+use Rattle.std.specs.List.{range_with_len, list_any}
 use Rattle.std.proofs.lemmas.Bool.{cases_order}
 use Rattle.std.proofs.lemmas.Bool.Decides.{nat_tests}
 use Rattle.std.proofs.lemmas.List.Sums.{sum_by_push}
 use Rattle.packed_rows.specs.Page.{Page, pixel}
-use Rattle.page_runs.specs.Packed.{Packed, page_of, rows_of, Holds}
+use Rattle.page_runs.specs.declared.row_runs.Run.{Run}
+use Rattle.page_runs.specs.Packed.{Packed, page_of, row_of, rows_of, Holds}
+use Rattle.page_runs.specs.Runs.{has_column}
+use Rattle.page_runs.proofs.Slices.{row_past}
 use Rattle.page_runs.specs.Rows.{Given}
 use Rattle.page_runs.specs.Black.{black_in, black_in_row, black_of}
 
@@ -69,14 +72,14 @@ none_black page white = none page.height
 
 -- the row under the last one that is there is white
 next_white : (old : Packed) (x : ℕ) → (page_of old).is_black x (rows_of old) ≡ false
-unfolding page_of rows_of
+unfolding page_of rows_of row_of
 next_white old x =
-    let past : ltb old.rows old.rows ≡ false = grind (arith, nat_tests) in
-    rw past (none (ltb x old.width && ltb old.rows old.height))
+    let none = ap (λ (l : List Run). list_any (has_column x) l) (row_past old.runs old.ends (length old.ends) (omega arith)) in
+    ap (λ (b : Bool). (ltb x old.width && ltb (length old.ends) old.height) && b) none ∙ and_false (ltb x old.width && ltb (length old.ends) old.height)
   where
-    none : (b : Bool) → (b && false) ≡ false
-    none true = refl
-    none false = refl
+    and_false : (b : Bool) → (b && false) ≡ false
+    and_false true = refl
+    and_false false = refl
 
 -- a row more has its black places more
 pub row_counted : (old new : Packed) (bits : List ℕ) → Given old bits new → rows_of old < (page_of old).height

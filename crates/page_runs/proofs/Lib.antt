@@ -1,4 +1,8 @@
-pub mod Packing
+pub mod Slices
 pub mod Counting
 pub mod Ones
+pub mod Blacks
+pub mod Pushing
 pub mod Held
+pub mod RowRuns
+pub mod RowWords

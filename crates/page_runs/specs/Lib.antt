@@ -1,4 +1,5 @@
 -- A page of which some first rows are there, and what it becomes that takes its rows.
+pub mod Runs
 pub mod Packed
 pub mod Black
 pub mod Rows

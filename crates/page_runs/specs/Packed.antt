@@ -1,23 +1,32 @@
--- A page of which some first rows are there, as packed bytes.
-use Rattle.std.specs.Prelude.{◌≡◌, ◌<◌, ℕ, ◌+◌, ◌-◌, ◌*◌, ◌/◌, ◌%◌, ◌&&◌, List, length, slice_index, nat_eq, nat_lt, if◌then◌else◌}
-use Rattle.std.specs.Int.{bit_at}
-use Rattle.packed_rows.specs.Page.{Page, page_with, row_len, pixel, HasPicture}
+-- A page of which some first rows are there, packed as the runs of their black places.
+use Rattle.std.specs.Prelude.{◌≡◌, ◌<◌, ℕ, ◌-◌, List, ◌∷◌, length, slice_index, take, drop}
+use Rattle.std.specs.List.{list_any}
+use Rattle.packed_rows.specs.Page.{Page, page_with, HasPicture}
+use Rattle.page_runs.specs.declared.row_runs.Run.{Run}
+use Rattle.page_runs.specs.Runs.{has_column}
 
--- what a page keeps: its size, how many rows are there from the top, and their bytes
+-- what a page keeps: its size, the runs of all rows that are there, and for each of these rows how many runs lie in it and above
 pub record Packed : Type 0 where
   pub width : ℕ
   pub height : ℕ
-  pub rows : ℕ
-  pub bytes : List ℕ
-
--- the page, whose rows that are not there are white
-unfoldable pub page_of : Packed → Page
-page_of p =
-    page_with p.width p.height (λ x y. nat_lt y p.rows && nat_eq (bit_at (slice_index p.bytes (y * row_len p.width + x / 8)) (7 - x % 8)) 1)
+  pub runs : List Run
+  pub ends : List ℕ
 
 -- how many rows are there
 unfoldable pub rows_of : Packed → ℕ
-rows_of p = p.rows
+rows_of p = length p.ends
+
+-- of these runs those from a number up to another
+abbrev pub runs_between : List Run → ℕ → ℕ → List Run
+runs_between runs from to = take (to - from) (drop from runs)
+
+-- the runs of the row y, none where it is not there
+unfoldable pub row_of : Packed → ℕ → List Run
+row_of p y = runs_between p.runs (slice_index (0 ∷ p.ends) y) (slice_index p.ends y)
+
+-- the page: a place is black where a run of its row has it; rows that are not there are white
+unfoldable pub page_of : Packed → Page
+page_of p = page_with p.width p.height (λ x y. list_any (has_column x) (row_of p y))
 
 -- every row is there, and there is one
 pub record IsWhole (p : Packed) : Type 0 where
@@ -27,8 +36,3 @@ pub record IsWhole (p : Packed) : Type 0 where
 -- the page of these rows has the size and the black places of this page
 abbrev pub Holds : Packed → Page → Type 0
 Holds p page = HasPicture (page_of p) page
-
--- the packed bytes have the row y of the page; nothing is said of the padding bits
-pub record HasRow (page : Page) (y : ℕ) (bits : List ℕ) : Type 0 where
-  pub len : length bits ≡ row_len page.width
-  pub pixels : (x : ℕ) → x < page.width → pixel bits x ≡ (if page.is_black x y then 1 else 0)

@@ -1,13 +1,14 @@
 //! A page whose rows come one by one from the top.
-ghost use Rattle.std.specs.Prelude.{◌≡◌, ◌<◌, ◌≤◌, ℕ, OnOk, OnErr, IsTrue, ◌↔◌};
-ghost use Rattle.packed_rows.specs.Page.{Page, IsPackedRow, IsPageSize};
-ghost use Rattle.page_runs.specs.Packed.{HasRow, Holds, IsWhole, page_of, rows_of};
+ghost use Rattle.std.specs.Prelude.{◌≡◌, ◌<◌, ◌≤◌, ◌+◌, ◌^◌, ℕ, [], ◌∷◌, ◌++◌, OnOk, OnErr, IsTrue, ◌↔◌, length, slice_index};
+ghost use Rattle.packed_rows.specs.Page.{Page, IsPackedRow, IsPageSize, row_len};
+ghost use Rattle.page_runs.specs.Packed.{Holds, IsWhole, page_of, row_of, rows_of};
+ghost use Rattle.page_runs.specs.Runs.{AddsRow, AreRunsOf, Extends};
 ghost use Rattle.page_runs.specs.Black.{black_of};
 ghost use Rattle.page_runs.specs.Rows.{Given, GivenPageIsHeld};
 
 use crate::black::black_in;
-use layout_limits::OutOfMemory;
-use packed_rows::{pixel, row_len};
+use crate::row_runs::{Run, add_row};
+use layout_limits::{MAX_SIDE, OutOfMemory};
 use pbm_reader::RowSink;
 use std::alloc::Global;
 use std::marker::Model;
@@ -15,13 +16,15 @@ use std::marker::Model;
 /// A page of black and white pixels, at most `MAX_SIDE` wide and high, and `MAX_PIXELS` pixels in all.
 ///
 /// It takes the rows from the top, as packed bytes: eight pixels a byte, the high bit leftmost, 1
-/// for black, as in Netpbm's raw PBM. It is whole once all of its rows are there.
+/// for black, as in Netpbm's raw PBM. It keeps the runs of their black pixels, 4 bytes each, and 4 bytes
+/// more a row. It is whole once all of its rows are there.
 #[derive(Drop)]
 pub struct RunPage {
     width: u16,
     height: u16,
-    rows: u16,
-    bytes: Vec<u8>,
+    runs: Vec<Run>,
+    // for each row that is there, how many runs lie in it and above
+    ends: Vec<u32>,
     black: u64,
 }
 
@@ -31,12 +34,32 @@ impl Model for RunPage {
 
     ghost Value = { Packed };
 
-    ghost view = { λ p. record { width = p.width; height = p.height; rows = p.rows; bytes = p.bytes.items } };
+    ghost view = { λ p. record { width = p.width; height = p.height; runs = p.runs.items; ends = p.ends.items } };
 
-    ghost invariant = { λ p. IsPacked (record { width = p.width; height = p.height; rows = p.rows; bytes = p.bytes.items }) p.black };
+    ghost invariant = { λ p. IsPacked (record { width = p.width; height = p.height; runs = p.runs.items; ends = p.ends.items }) p.black };
 }
 
-#[tactic(auto, unfolding(crate::specs::Packed::page_of, crate::specs::Packed::rows_of))]
+/// Adds a row's runs, and where they end. Where memory is refused some runs may have been added, but no end.
+fn add_ended_row(
+    runs: &mut Vec<Run>,
+    ends: &mut Vec<u32>,
+    bits: &[u8],
+    width: u16,
+) -> Result<(), OutOfMemory>
+    requires width { width ≤ MAX_SIDE }
+    requires len { length bits.now ≡ row_len width }
+    requires room { length runs.old.items + MAX_SIDE < 2 ^ 32 }
+    ensures added { OnOk result (AddsRow bits.now width width runs.old.items runs.new.items) }
+    ensures ended { OnOk result (ends.new.items ≡ ends.old.items ++ length runs.new.items ∷ []) }
+    ensures begun { OnErr result (Extends runs.old.items runs.new.items) }
+    ensures none_ended { OnErr result (ends.new.items ≡ ends.old.items) }
+{
+    add_row(runs, bits, width)?;
+    ends.push(runs.len() as u32)?;
+    Ok(())
+}
+
+#[tactic(auto, unfolding(crate::specs::Packed::page_of, crate::specs::Packed::rows_of, crate::specs::Packed::row_of))]
 impl RunPage {
     /// The page that was not begun: 0 pixels wide and high.
     pub fn empty(alloc: Global) -> RunPage
@@ -47,8 +70,8 @@ impl RunPage {
         RunPage {
             width: 0,
             height: 0,
-            rows: 0,
-            bytes: Vec::new(alloc),
+            runs: Vec::new(alloc),
+            ends: Vec::new(alloc),
             black: 0,
         }
     }
@@ -74,7 +97,7 @@ impl RunPage {
     pub fn is_whole(&self) -> bool
         ensures { IsTrue result ↔ IsWhole self.now }
     {
-        self.rows == self.height && self.height > 0
+        self.ends.len() == usize::from(self.height) && self.height > 0
     }
 
     /// Whether the pixel in column x and row y is black.
@@ -84,17 +107,32 @@ impl RunPage {
         requires in_column { y < (page_of self.now).height }
         ensures { result ≡ (page_of self.now).is_black x y }
     {
-        pixel(self.packed_row(y), x) == 1
+        self.row(y).iter().any(|run| run.x0 <= x && x < run.x1)
     }
 
-    /// The packed bytes of a row that is there; what the padding bits are is not said.
-    pub fn packed_row(&self, y: u16) -> &[u8]
-        requires { y < rows_of self.now }
-        ensures { HasRow (page_of self.now) y result.now }
+    /// How many runs lie above a row.
+    fn runs_above(&self, y: u16) -> usize
+        requires { y ≤ length self.now.ends }
+        ensures { result ≡ slice_index (0 ∷ self.now.ends) y }
     {
-        let len = row_len(self.width);
-        let at = usize::from(y) * len;
-        &self.bytes[at..at + len]
+        if y == 0 {
+            0
+        } else {
+            self.ends[usize::from(y) - 1] as usize
+        }
+    }
+
+    /// The maximal runs of the black pixels of a row that is there, from the left: where one ends and another
+    /// begins, there is white between them.
+    pub fn row(&self, y: u16) -> &[Run]
+        requires { y < rows_of self.now }
+        ensures runs { AreRunsOf (page_of self.now) y result.now }
+        ensures value { result.now ≡ row_of self.now y }
+        ensures few { length result.now ≤ (page_of self.now).width }
+    {
+        let from = self.runs_above(y);
+        let to = self.ends[usize::from(y)] as usize;
+        &self.runs[from..to]
     }
 
     /// Adds the next row, as packed bytes, the padding bits behind the width clear. The one refusal
@@ -106,10 +144,17 @@ impl RunPage {
         ensures err { OnErr result (self.new ≡ self.old) }
     {
         let black = black_in(bits, self.width);
-        self.bytes.extend_from_slice(bits)?;
-        self.rows += 1;
-        self.black += black;
-        Ok(())
+        let len = self.runs.len();
+        match add_ended_row(&mut self.runs, &mut self.ends, bits, self.width) {
+            Ok(()) => {
+                self.black += black;
+                Ok(())
+            }
+            Err(refused) => {
+                self.runs.truncate(len);
+                Err(refused)
+            }
+        }
     }
 
     /// The number of black pixels of the rows that are there.
@@ -122,7 +167,7 @@ impl RunPage {
     }
 }
 
-#[tactic(auto, unfolding(crate::specs::Packed::page_of, crate::specs::Packed::rows_of))]
+#[tactic(auto, unfolding(crate::specs::Packed::page_of, crate::specs::Packed::rows_of, crate::specs::Packed::row_of))]
 impl RowSink for RunPage {
     ghost use Rattle.std.specs.Prelude.{◌≡◌, ◌-◌};
     ghost use Rattle.page_runs.specs.Packed.{page_of, rows_of};
@@ -139,8 +184,8 @@ impl RowSink for RunPage {
     ghost unchanged = { λ old new. new ≡ old };
 
     fn begin(&mut self, width: u16, height: u16) -> Result<(), OutOfMemory> {
-        self.bytes.clear();
-        self.rows = 0;
+        self.runs.clear();
+        self.ends.clear();
         self.black = 0;
         self.width = width;
         self.height = height;

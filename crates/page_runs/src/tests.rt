@@ -1,6 +1,14 @@
-//! A page that was given its rows is held.
-use crate::{RunPage, given_page_is_held};
-use pbm_reader::RowSink;
+//! A page that was given its rows is held, as runs, and a reader goes no farther than its sink.
+ghost use Rattle.std.specs.Prelude.{◌≡◌, ◌<◌, ◌+◌, OnOk, length};
+ghost use Rattle.packed_rows.specs.Page.{row_len};
+ghost use Rattle.page_runs.specs.Packed.{page_of, rows_of};
+
+use crate::{Run, RunPage, given_page_is_held};
+use layout_limits::OutOfMemory;
+use layout_outside::MemSource;
+use packed_rows::clear_padding;
+use pbm_reader::{PageFault, RowSink, read_page};
+use std::process::Abort;
 use std::test::Fail;
 
 #[test]
@@ -26,5 +34,116 @@ fn the_black_pixels_of_a_page_that_was_given(rt: HostRuntime) -> Result<(), Fail
         assert!(rt; page.is_black(x, y) == black);
     }
     given_page_is_held();
+    Ok(())
+}
+
+/// Adds a row whose padding bits are cleared before.
+fn push(page: &mut RunPage, bits: &mut [u8]) -> Result<(), OutOfMemory>
+    requires more { rows_of page.old < (page_of page.old).height }
+    requires len { length bits.old ≡ row_len (page_of page.old).width }
+    ensures rows { OnOk result (rows_of page.new ≡ rows_of page.old + 1) }
+    ensures width { OnOk result ((page_of page.new).width ≡ (page_of page.old).width) }
+    ensures height { OnOk result ((page_of page.new).height ≡ (page_of page.old).height) }
+{
+    clear_padding(bits, page.width());
+    page.push_row(bits)
+}
+
+/// The runs of a row are these.
+fn has_runs(rt: &impl Abort, runs: &[Run], want: &[[u16; 2]]) {
+    assert_eq!(rt; runs.len(), want.len());
+    for (run, ends) in runs.iter().zip(want) {
+        assert!(rt; run.x0 == ends[0] && run.x1 == ends[1]);
+    }
+}
+
+#[test]
+fn the_runs_of_a_row(rt: HostRuntime) -> Result<(), Fail> {
+    let mut page = RunPage::empty(rt.alloc());
+    page.begin(5, 2)?;
+    push(&mut page, &mut [0b1101_1000])?;
+    push(&mut page, &mut [0b0010_0000])?;
+    has_runs(&rt, page.row(0), &[[0, 2], [3, 5]]);
+    has_runs(&rt, page.row(1), &[[2, 3]]);
+    Ok(())
+}
+
+/// Runs over the bounds of bytes, at the width and to the width, and an empty row.
+#[test]
+fn the_runs_of_rows_of_three_bytes(rt: HostRuntime) -> Result<(), Fail> {
+    let mut page = RunPage::empty(rt.alloc());
+    page.begin(20, 3)?;
+    push(&mut page, &mut [0x0F, 0xF0, 0x3F])?;
+    push(&mut page, &mut [0, 0, 0x0F])?;
+    push(&mut page, &mut [0xFF, 0xFF, 0xFF])?;
+    has_runs(&rt, page.row(0), &[[4, 12], [18, 20]]);
+    has_runs(&rt, page.row(1), &[]);
+    has_runs(&rt, page.row(2), &[[0, 20]]);
+    Ok(())
+}
+
+#[test]
+fn a_row_of_single_pixels(rt: HostRuntime) -> Result<(), Fail> {
+    let mut page = RunPage::empty(rt.alloc());
+    page.begin(8192, 1)?;
+    push(&mut page, &mut [0xAA; 1024])?;
+    assert_eq!(rt; page.row(0).len(), 4096);
+    assert_eq!(rt; page.black(), 4096);
+    Ok(())
+}
+
+// Has memory for three rows.
+#[derive(Drop)]
+struct ThreeRows {
+    width: u16,
+    left: u16,
+    given: u16,
+}
+
+impl RowSink for ThreeRows {
+    ghost use Rattle.std.specs.Prelude.{◌≡◌, ℕ, List};
+
+    ghost width_of = { λ s. s.width };
+
+    ghost rows_left = { λ s. s.left };
+
+    ghost begun = { λ _ _ _ _. Unit {0} };
+
+    ghost given = { λ _ _ _. Unit {0} };
+
+    ghost unchanged = { λ old new. (new.width ≡ old.width) × (new.left ≡ old.left) };
+
+    fn begin(&mut self, width: u16, height: u16) -> Result<(), OutOfMemory> {
+        self.width = width;
+        self.left = height;
+        self.given = 0;
+        Ok(())
+    }
+
+    fn row(&mut self, _bits: &[u8]) -> Result<(), OutOfMemory> {
+        if self.given == 3 {
+            return Err(OutOfMemory);
+        }
+        self.given = self.given.saturating_add(1);
+        self.left -= 1;
+        Ok(())
+    }
+}
+
+/// A raster of 200 rows of 1,000 bytes, of which the sink refuses the fourth.
+#[test]
+fn a_row_that_is_refused_ends_the_reading_soon(rt: HostRuntime) -> Result<(), Fail> {
+    let mut input = b"P4\n8000 200\n".to_vec(rt.alloc())?;
+    input.resize(200_012, 0x55)?;
+    let mut src = MemSource::new(input, 1, Vec::new(rt.alloc()));
+    let mut rows = ThreeRows {
+        width: 0,
+        left: 0,
+        given: 0,
+    };
+    let result = read_page(rt.alloc(), &mut src, &mut rows);
+    assert!(rt; matches!(result, Err(PageFault::Memory)));
+    assert_eq!(rt; rows.given, 3);
+    assert!(rt; src.at <= 12 + 4_000 + 65_536);
     Ok(())
 }

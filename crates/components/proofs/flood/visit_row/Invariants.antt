@@ -1,10 +1,12 @@
-use Rattle.std.proofs.Common.{◌≤◌, ◌<◌, ℕ}
-use Rattle.components.specs.Runs.{IsTouchingAt, IsMarkedRun, GrowsRuns}
+use Rattle.std.proofs.Common.{◌≤◌, ◌<◌, ◌+◌, ℕ}
+use Rattle.std.specs.Prelude.{slice_index}
+use Rattle.components.specs.Runs.{AreListed, IsTouchingAt, IsMarkedRun, GrowsRuns, runs_of, numbers}
 use Rattle.components.proofs.flood.visit_row.Given as goal
 
 -- the runs before this one have their marks
-abbrev pub invariant-loop-i : goal.invariant-loop-i
-invariant-loop-i l = record {
-  grows : GrowsRuns (IsTouchingAt l.table.runs.items l.fn.run) l.fn.marks.items l.marks.items l.fn.waiting.items l.waiting.items;
-  passed : (k : ℕ) → l.from ≤ k → k < l.i → IsMarkedRun l.marks.items k;
+abbrev pub invariant-loop-place : goal.invariant-loop-place
+invariant-loop-place l = record {
+  grows : GrowsRuns (IsTouchingAt (runs_of l.page) l.fn.run) l.fn.marks.items l.marks.items (numbers l.starts l.fn.waiting.items) (numbers l.starts l.waiting.items);
+  passed : (k : ℕ) → slice_index l.starts l.row + l.from ≤ k → k < slice_index l.starts l.row + l.place → IsMarkedRun l.marks.items k;
+  listed : AreListed (runs_of l.page) l.starts l.fn.waiting.items → AreListed (runs_of l.page) l.starts l.waiting.items;
 }

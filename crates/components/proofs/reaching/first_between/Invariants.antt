@@ -1,5 +1,5 @@
 use Rattle.std.proofs.Common.{◌≤◌, ◌<◌, ◌-◌, ℕ}
-use Rattle.components.specs.Runs.{run_at}
+use Rattle.page_runs.specs.Runs.{run_at}
 use Rattle.components.proofs.reaching.first_between.Given as goal
 
 abbrev pub invariant-loop-low : goal.invariant-loop-low

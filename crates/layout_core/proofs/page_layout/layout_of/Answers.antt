@@ -21,7 +21,7 @@ faulted : (page : Page) (fault : CompFault) → IsFaultOf page fault → IsCoreF
 faulted page (faults.TooMany count) f = record { counted = f.0; many = f.1 }
 faulted page faults.Memory f = tt
 
--- a page of packed rows holds the page that it is
+-- a page holds the page that it is
 holds_itself : (p : Packed) → Holds p (page_of p)
 holds_itself p = record { width_is = refl; height_is = refl; same = λ x y in_row in_column. refl }
 
