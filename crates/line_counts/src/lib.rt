@@ -1,0 +1,17 @@
+//! Counts of the boxes that fit a line exactly, by slope, segment and offset, and what they say of scores: the score of
+//! a line is a weighted sum of a few of them, however many boxes a page has.
+#![tactic(auto)]
+
+mod counts;
+mod fit;
+mod greatest;
+mod limits;
+mod score;
+mod stretch;
+mod table;
+#[cfg(test)]
+mod tests;
+
+pub use counts::Counts;
+pub use limits::{MAX_TABLE_BOXES, MAX_TABLE_GUTTERS};
+pub use stretch::Stretch;
