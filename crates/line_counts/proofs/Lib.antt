@@ -5,4 +5,8 @@ pub mod Counting
 pub mod Weighing
 pub mod Rows
 pub mod Segments
-pub mod Keys
+pub mod Joining
+pub mod Scored
+pub mod Renewing
+pub mod Spans
+pub mod Covering

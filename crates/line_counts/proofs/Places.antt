@@ -3,7 +3,7 @@ use Rattle.std.proofs.Common.{◌≡◌, ℕ, ◌+◌, ◌*◌, ◌<◌, ◌≤�
 use Rattle.std.proofs.Math.Nat.{mul-le-mul}
 use Rattle.std.proofs.lemmas.Int.{ints}
 use Rattle.layout_geom.specs.declared.rect.Rect.{Rect}
-use Rattle.line_quality.specs.Points.{IsSlope, rise, height_at, middle_of, weight, weight_at, foot_gap}
+use Rattle.line_quality.specs.Points.{IsSlope, IsOffset, rise, height_at, middle_of, weight, weight_at, foot_gap}
 use Rattle.line_quality.specs.HeightLaws.{floor_parts, rise_grows}
 use Rattle.line_quality.specs.KeyLaws.{abs_parts}
 use Rattle.line_counts.specs.Fits.{slope_of, place_of, first_place, apart, weight_behind}
@@ -32,6 +32,9 @@ slope_in number small = record { low = omega (arith, ints); high = omega (arith,
 -- a slope as the code holds it
 pub held_slope : (s : ℤ) → IsSlope s → to_z w8 (of_z w8 s) ≡ s
 held_slope s in_slopes = omega (arith, ints, in_slopes.low, in_slopes.high)
+
+pub held_in_grid : (s : ℤ) → IsOffset s → to_z w16 (of_z w16 s) ≡ s
+held_in_grid s in_grid = omega (arith, ints, in_grid.low, in_grid.high)
 
 pub held_offset : (s from : ℤ) (n count : ℕ) → s ≡ from +ℤ pos n → negsuc 299 ≤ℤ from → (from +ℤ pos count) ≤ℤ pos 8493 → n < count → to_z w16 (of_z w16 s) ≡ s
 held_offset s from n count is low high less = omega (arith, ints)

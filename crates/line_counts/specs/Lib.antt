@@ -2,3 +2,4 @@
 pub mod Fits
 pub mod Table
 pub mod Stretches
+pub mod Bests

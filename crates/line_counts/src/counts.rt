@@ -77,6 +77,7 @@ impl Counts {
     pub fn take(&mut self, members: &[u32], others: Numbers)
         requires divided { IsPermutation self.old.alive (members.now ++ others) }
         ensures others { self.new ≡ record self.old { alive = others } }
+        ensures members { All (λ position. position < length self.old.boxes) members.now }
     {
         lower_all(
             self.cells.as_mut_slice(),
@@ -86,6 +87,14 @@ impl Counts {
             members,
         );
         self.alive = others;
+    }
+
+    /// The height of the page.
+    pub fn height(&self) -> u16
+        ensures value { result ≡ self.now.height }
+        ensures high { result ≤ MAX_SIDE }
+    {
+        self.height
     }
 
     /// The boxes of the page.

@@ -1,7 +1,7 @@
 //! Values that were worked out by hand from the definitions.
 ghost use Rattle.std.specs.Prelude.{◌≡◌, ◌≤◌, ◌∷◌, [], IfOk, length};
 
-use crate::{Counts, Stretch};
+use crate::{Counts, Keys, Stretch};
 use layout_geom::{Numbers, Rect, Rects};
 use layout_limits::OutOfMemory;
 use line_quality::{Score, line_key};
@@ -98,5 +98,18 @@ fn the_greatest_key_is_that_of_what_is_left(rt: HostRuntime) -> Result<(), Fail>
     counts.take(&RIGHT, numbers(rt.alloc(), &LEFT)?);
     assert_eq!(rt; counts.greatest(&all, 60), line_key(75, 0, 12, 3));
     assert_eq!(rt; counts.alive().as_slice(), LEFT.as_slice());
+    Ok(())
+}
+
+#[test]
+fn keys_stay_exact_as_boxes_go(rt: HostRuntime) -> Result<(), Fail> {
+    let mut keys = Keys::new(rt.alloc(), page(rt.alloc())?, 60, 6)?;
+    let before = keys.bests().iter().map(|best| best.key).max();
+    assert_eq!(rt; before, Some(line_key(100, 0, 12, 1)));
+    keys.take(&RIGHT, numbers(rt.alloc(), &LEFT)?);
+    let after = keys.bests().iter().map(|best| best.key).max();
+    assert_eq!(rt; after, Some(line_key(75, 0, 12, 3)));
+    assert_eq!(rt; keys.counts().alive().len(), 3);
+    assert_eq!(rt; keys.bests().len(), 65 * 16);
     Ok(())
 }

@@ -3,7 +3,7 @@ use Rattle.std.proofs.lemmas.Int.{ints}
 use Rattle.box_search.specs.Search.{IsGreatestKey}
 use Rattle.line_counts.specs.Stretches.{IsKeyOf}
 use Rattle.line_counts.proofs.Places.{held_offset}
-use Rattle.line_counts.proofs.Keys.{no_offset, offset_more, offset_all}
+use Rattle.line_counts.proofs.Joining.{no_offset, offset_more, offset_all}
 use Rattle.line_counts.proofs.counts.Counts.greatest.Goals as goal
 
 high_row : (from : ℤ) (count height : ℕ) → (from +ℤ pos count) ≤ℤ pos (height + 300 + 1) → height ≤ 8192 → (from +ℤ pos count) ≤ℤ pos 8493

@@ -1,6 +1,6 @@
 use Rattle.box_search.specs.Search.{IsGreatestKey}
 use Rattle.line_counts.specs.Stretches.{IsKeyIn}
-use Rattle.line_counts.proofs.Keys.{first_of}
+use Rattle.line_counts.proofs.Joining.{first_of}
 use Rattle.line_counts.proofs.counts.Counts.greatest.Given as goal
 
 abbrev pub invariant-loop-more : goal.invariant-loop-more

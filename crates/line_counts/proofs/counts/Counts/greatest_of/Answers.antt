@@ -3,7 +3,7 @@ use Rattle.std.proofs.lemmas.Int.{to_z-of_z}
 use Rattle.box_search.specs.Search.{IsGreatestKey}
 use Rattle.line_counts.specs.Stretches.{IsKeyOf, IsKeyAt}
 use Rattle.line_counts.proofs.Places.{held_slope}
-use Rattle.line_counts.proofs.Keys.{no_depth, depth_more, depth_all}
+use Rattle.line_counts.proofs.Joining.{no_depth, depth_more, depth_all}
 use Rattle.line_counts.proofs.counts.Counts.greatest_of.Goals as goal
 
 pub loop-depth-init : goal.loop-depth-init

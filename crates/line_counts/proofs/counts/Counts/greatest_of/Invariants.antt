@@ -1,5 +1,5 @@
 use Rattle.box_search.specs.Search.{IsGreatestKey}
-use Rattle.line_counts.proofs.Keys.{IsKeyAmong}
+use Rattle.line_counts.proofs.Joining.{IsKeyAmong}
 use Rattle.line_counts.proofs.counts.Counts.greatest_of.Given as goal
 
 abbrev pub invariant-loop-depth : goal.invariant-loop-depth

@@ -3,7 +3,7 @@ use Rattle.std.proofs.lemmas.Int.{to_z-of_z}
 use Rattle.line_quality.specs.Keys.{line_key}
 use Rattle.line_quality.specs.Scores.{IsScore}
 use Rattle.line_counts.specs.Table.{LivingPage}
-use Rattle.line_counts.proofs.Keys.{key_of_line, no_key_of_line}
+use Rattle.line_counts.proofs.Joining.{key_of_line, no_key_of_line}
 use Rattle.line_counts.proofs.counts.Counts.key_at.Goals as goal
 
 pub returns-then-score-least : goal.returns-then-score-least

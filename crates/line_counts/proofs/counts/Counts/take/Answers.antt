@@ -51,3 +51,11 @@ invariant_of-self c =
       wide = c.self.invariant.wide;
       counts = subst (λ (cells : List ℕ). AreCounts boxes c.self.inside.gutters c.self.inside.width c.args.others cells) (sym written) counted;
     }
+
+pub returns-clause-members : goal.returns-clause-members
+returns-clause-members c =
+    let boxes = c.args.self.now.boxes in
+    let page : LivingPage = c.args.self.now in
+    let positions : All (λ (p : ℕ). p < length page.boxes) page.alive = subst (λ (q : LivingPage). All (λ (p : ℕ). p < length q.boxes) q.alive) c.self.view_is c.self.invariant.countable.positions in
+    let all : All (λ (p : ℕ). p < length page.boxes) (c.args.members.now ++ c.args.others) = All-permutation (λ (p : ℕ). p < length page.boxes) page.alive (c.args.members.now ++ c.args.others) c.requires.divided positions in
+    λ k d within. subst (λ (n : ℕ). n < length page.boxes) (get_or_append_left c.args.members.now c.args.others d k within) (all k d (omega (arith, within, length-append c.args.members.now c.args.others)))
