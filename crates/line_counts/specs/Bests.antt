@@ -61,7 +61,8 @@ pub record HasLines (slope offset : ℤ) (deepest : ℕ) (stretch : Stretch) : T
 
 -- each line of the slope with an offset of the first rows is of some stretch
 abbrev pub HaveRows : ℕ → ℕ → ℕ → List Stretch → Type 0
-HaveRows number rows deepest stretches = (row : ℕ) → row < rows → Any (HasLines (slope_of number) (pos row +ℤ LEAST_OFFSET) deepest) stretches
+HaveRows number rows deepest stretches = (row : ℕ) → row < rows
+    → Any (HasLines (slope_of number) (pos row +ℤ LEAST_OFFSET) deepest) stretches
 
 -- each line of the grid of a page of this height is of some stretch
 abbrev pub HaveAll : ℕ → ℕ → List Stretch → Type 0

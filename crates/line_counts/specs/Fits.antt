@@ -41,7 +41,8 @@ count_of boxes gutters slope segment place positions = count_by
 -- what the boxes of one segment weigh together for a line
 abbrev pub segment_weight : List Rect → List Rect → ℤ → ℤ → ℕ → ℕ → List ℕ → ℕ
 segment_weight boxes gutters slope offset depth segment positions = sum_by
-    (λ position. cond (is_in gutters segment (slice_get boxes position)) (weight_of slope offset depth (slice_get boxes position)) 0) positions
+    (λ position. cond (is_in gutters segment (slice_get boxes position))
+    (weight_of slope offset depth (slice_get boxes position)) 0) positions
 
 -- the first place that weighs something for a line of this offset
 abbrev pub first_place : ℤ → ℕ

@@ -51,7 +51,8 @@ pub record IsRaised (gutters : List Rect) (width : ℕ) (r : Rect) (before after
 
 -- the cell in which a box is counted at a slope
 abbrev pub own_cell : List Rect → ℕ → Rect → ℕ → ℕ
-own_cell gutters width r number = cell_of (length gutters + 1) width number (segment_of gutters (middle_of r)) (place_of (slope_of number) r)
+own_cell gutters width r number =
+    cell_of (length gutters + 1) width number (segment_of gutters (middle_of r)) (place_of (slope_of number) r)
 
 -- the table of a page
 pub record IsTable (page : LivingPage) (width : ℕ) (cells : List ℕ) : Type 0 where
