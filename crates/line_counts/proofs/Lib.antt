@@ -1,0 +1,12 @@
+-- Lemmas of places, of the cells of a table, of sums over boxes and counts, of segments, and of keys.
+pub mod Places
+pub mod Cells
+pub mod Counting
+pub mod Weighing
+pub mod Rows
+pub mod Segments
+pub mod Joining
+pub mod Scored
+pub mod Renewing
+pub mod Spans
+pub mod Covering

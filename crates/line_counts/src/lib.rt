@@ -1,0 +1,23 @@
+//! Counts of the boxes that fit a line exactly, by slope, segment and offset, and what they say of scores: the score of
+//! a line is a weighted sum of a few of them, however many boxes a page has.
+#![tactic(auto)]
+
+mod best;
+mod blocks;
+mod counts;
+mod fit;
+mod greatest;
+mod keys;
+mod limits;
+mod score;
+mod span;
+mod stretch;
+mod table;
+#[cfg(test)]
+mod tests;
+
+pub use best::Best;
+pub use counts::Counts;
+pub use keys::Keys;
+pub use limits::{MAX_TABLE_BOXES, MAX_TABLE_GUTTERS};
+pub use stretch::Stretch;
