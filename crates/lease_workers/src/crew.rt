@@ -37,7 +37,7 @@ pub(crate) enum Found<W> {
 
 /// How a worker asks for turns.
 #[derive(Clone, Copy, Debug)]
-enum Manner {
+pub(crate) enum Manner {
     /// It passes by a turn that another holds.
     Trying,
     /// It waits for each turn.
@@ -93,7 +93,7 @@ impl<'a, 's, S: Space, R: Wait, G: Gate> Crew<'a, 's, S, R, G> {
     }
 
     /// Goes round the shards, its own first, until one has a node to lease.
-    fn go_round(
+    pub(crate) fn go_round(
         &self,
         worker: &mut Worker,
         pass: SplitPass<S>,
@@ -123,24 +123,6 @@ impl<'a, 's, S: Space, R: Wait, G: Gate> Crew<'a, 's, S, R, G> {
             }
         }
         (if busy { Found::Busy } else { Found::Done }, mine)
-    }
-
-    /// Goes round the shards, and passes by those whose turn another holds.
-    pub(crate) fn look(
-        &self,
-        worker: &mut Worker,
-        pass: SplitPass<S>,
-    ) -> (Found<S::Work>, SplitPass<S>)
-        requires shards { self.now.count ≡ self.now.shards.now.shards }
-        requires worker { worker.old.own < self.now.count }
-        requires own { IsOwn self.now.shards.now pass }
-        requires unnamed { pass.view.rest.leases ≡ [] }
-        ensures worker { worker.new.own ≡ worker.old.own }
-        ensures own { IsOwn self.now.shards.now result.1 }
-        ensures parts { result.1.view.rest.parts ≡ pass.view.rest.parts }
-        ensures named { NamesFound (S.fits self.now.shards.now.problem) self.now.count result.0 result.1.view.rest.leases }
-    {
-        self.go_round(worker, pass, Manner::Trying)
     }
 
     /// Goes round the shards and waits for each turn, and then for news where it found no lease and others have some.

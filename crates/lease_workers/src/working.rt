@@ -1,10 +1,9 @@
 //! What one worker does: it looks for a lease, takes the step at its node, ends the lease, and looks again.
-ghost use Rattle.std.specs.Prelude.{◌≡◌, ◌≢◌, ◌<◌, ◌∷◌, [], IfSome, IfNone};
+ghost use Rattle.std.specs.Prelude.{◌≡◌, ◌<◌, [], IfSome, IfNone};
 ghost use Rattle.split_frontier.specs.Callers.{IsOwn};
-ghost use Rattle.split_frontier.specs.Claims.{unspent};
-ghost use Rattle.lease_workers.specs.Finding.{NamesFound};
+ghost use Rattle.lease_workers.specs.Finding.{NamesLease, NamesFound};
 
-use crate::crew::{Crew, Found};
+use crate::crew::{Crew, Found, Manner};
 use crate::gate::Gate;
 use crate::worker::Worker;
 use box_search::{Lease, Space, Take};
@@ -22,53 +21,9 @@ pub(crate) struct Ended<S: Space> {
 }
 
 impl<'a, 's, S: Space, R: Wait, G: Gate> Crew<'a, 's, S, R, G> {
-    /// Ends a lease of the worker's own shard with what takes its place, and looks for the next. It answers nothing where
-    /// memory was refused; then the lease went back.
-    fn go_on_at_home(
-        &self,
-        alloc: Global,
-        worker: &mut Worker,
-        pass: SplitPass<S>,
-        lease: Lease<S::Work>,
-    ) -> (Option<Found<S::Work>>, SplitPass<S>)
-        requires shards { self.now.count ≡ self.now.shards.now.shards }
-        requires space { self.now.shards.now.problem ≡ S.problem self.now.space.now }
-        requires worker { worker.old.own < self.now.count }
-        requires own { IsOwn self.now.shards.now pass }
-        requires named { pass.view.rest.leases ≡ unspent worker.old.own lease ∷ [] }
-        requires fit { S.fits self.now.shards.now.problem lease.node }
-        ensures worker { worker.new.own ≡ worker.old.own }
-        ensures own { IsOwn self.now.shards.now result.1 }
-        ensures parts { result.1.view.rest.parts ≡ pass.view.rest.parts }
-        ensures named { IfSome result.0 (λ found.
-            NamesFound (S.fits self.now.shards.now.problem) self.now.count found result.1.view.rest.leases) }
-        ensures unnamed { IfNone result.0 (result.1.view.rest.leases ≡ []) }
-    {
-        let mut pass = pass;
-        let parts = match self.replace(alloc, &mut pass, &lease.node) {
-            Ok(parts) => parts,
-            Err(OutOfMemory) => return (None, self.give_up(worker, pass, worker.own, lease)),
-        };
-        let (take, pass) = self.finish(worker, pass, lease, parts);
-        match take {
-            None => (None, pass),
-            Some(Take::Leased(lease)) => (
-                Some(Found::Leased {
-                    home: worker.own,
-                    lease,
-                }),
-                pass,
-            ),
-            Some(_) => {
-                let (found, pass) = self.look(worker, pass);
-                (Some(found), pass)
-            }
-        }
-    }
-
-    /// Ends a lease of another shard, whose nodes the worker's own one adopts, and looks for the next. It answers nothing
-    /// where memory was refused; then the lease went back.
-    fn go_on_away(
+    /// Takes the step at a leased node, ends the lease with what takes its place, and looks for the next. It answers
+    /// nothing where memory was refused; then the lease went back.
+    fn work_off(
         &self,
         alloc: Global,
         worker: &mut Worker,
@@ -79,11 +34,8 @@ impl<'a, 's, S: Space, R: Wait, G: Gate> Crew<'a, 's, S, R, G> {
         requires shards { self.now.count ≡ self.now.shards.now.shards }
         requires space { self.now.shards.now.problem ≡ S.problem self.now.space.now }
         requires worker { worker.old.own < self.now.count }
-        requires there { home < self.now.count }
-        requires foreign { home ≢ worker.old.own }
         requires own { IsOwn self.now.shards.now pass }
-        requires named { pass.view.rest.leases ≡ unspent home lease ∷ [] }
-        requires fit { S.fits self.now.shards.now.problem lease.node }
+        requires named { NamesLease (S.fits self.now.shards.now.problem) self.now.count home lease pass.view.rest.leases }
         ensures worker { worker.new.own ≡ worker.old.own }
         ensures own { IsOwn self.now.shards.now result.1 }
         ensures parts { result.1.view.rest.parts ≡ pass.view.rest.parts }
@@ -96,12 +48,23 @@ impl<'a, 's, S: Space, R: Wait, G: Gate> Crew<'a, 's, S, R, G> {
             Ok(parts) => parts,
             Err(OutOfMemory) => return (None, self.give_up(worker, pass, home, lease)),
         };
-        let (adopted, pass) = self.adopt(worker, pass, home, lease, parts);
-        if !adopted {
-            return (None, pass);
+        if home != worker.own {
+            let (adopted, pass) = self.adopt(worker, pass, home, lease, parts);
+            if !adopted {
+                return (None, pass);
+            }
+            let (found, pass) = self.go_round(worker, pass, Manner::Trying);
+            return (Some(found), pass);
         }
-        let (found, pass) = self.look(worker, pass);
-        (Some(found), pass)
+        let (take, pass) = self.finish(worker, pass, lease, parts);
+        match take {
+            None => (None, pass),
+            Some(Take::Leased(lease)) => (Some(Found::Leased { home, lease }), pass),
+            Some(_) => {
+                let (found, pass) = self.go_round(worker, pass, Manner::Trying);
+                (Some(found), pass)
+            }
+        }
     }
 
     /// Goes on from what was found: ends the lease, or looks again. It answers what it found then, and nothing where
@@ -126,13 +89,7 @@ impl<'a, 's, S: Space, R: Wait, G: Gate> Crew<'a, 's, S, R, G> {
         ensures unnamed { IfNone result.0 (result.1.view.rest.leases ≡ []) }
     {
         match found {
-            Found::Leased { home, lease } => {
-                if home == worker.own {
-                    self.go_on_at_home(alloc, worker, pass, lease)
-                } else {
-                    self.go_on_away(alloc, worker, pass, home, lease)
-                }
-            }
+            Found::Leased { home, lease } => self.work_off(alloc, worker, pass, home, lease),
             Found::Busy | Found::Done => {
                 let (next, pass) = self.look_or_wait(worker, pass);
                 (Some(next), pass)
@@ -153,7 +110,7 @@ impl<'a, 's, S: Space, R: Wait, G: Gate> Crew<'a, 's, S, R, G> {
         ensures unnamed { result.pass.view.rest.leases ≡ [] }
     {
         let mut worker = Worker::new(own);
-        let (mut found, mut mine) = self.look(&mut worker, pass);
+        let (mut found, mut mine) = self.go_round(&mut worker, pass, Manner::Trying);
         let mut refused = false;
         for _ in self.rt.forever() {
             if let Found::Done = found {

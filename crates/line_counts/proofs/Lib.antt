@@ -6,7 +6,6 @@ pub mod Weighing
 pub mod Rows
 pub mod Segments
 pub mod Joining
-pub mod Scored
 pub mod Renewing
 pub mod Spans
 pub mod Covering

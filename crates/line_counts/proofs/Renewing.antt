@@ -20,7 +20,7 @@ use Rattle.line_counts.specs.Bests.{with_alive, AreBetween, Misses, IsBest}
 use Rattle.line_counts.specs.declared.best.Best.{Best}
 use Rattle.line_counts.proofs.Places.{weight_by_place, weightless_before, weightless_behind}
 use Rattle.line_counts.proofs.Weighing.{sum_kept}
-use Rattle.line_counts.proofs.Scored.{score_exists}
+use Rattle.line_quality.proofs.Scored.{score_exists}
 
 module _ (slope offset : ℤ) (depth : ℕ) (boxes gutters : List Rect) where
   abbrev weighs : ℕ → ℕ → ℕ

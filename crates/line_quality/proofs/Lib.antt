@@ -2,3 +2,4 @@
 pub mod Heights
 pub mod Sums
 pub mod Decoding
+pub mod Scored

@@ -1,5 +1,5 @@
 -- Boxes of one column of a line are in one sure column of each shape round it.
-use Rattle.std.proofs.Common.{◌≡◌, ℕ, ◌+◌, ◌≤◌, ℤ, pos, ◌≤ℤ◌, int_lt, int_le, Bool, true, false, cond, ◌&&◌, eqb, ltb, leb, List, [], ◌∷◌, Option, Some, None, slice_get, arith, refl, sym, ◌∙◌, ⊎_elim, ◌⊎◌, inl, inr}
+use Rattle.std.proofs.Common.{◌≡◌, ℕ, ◌+◌, ◌≤◌, ℤ, pos, ◌≤ℤ◌, int_lt, int_le, Bool, true, false, cond, ◌&&◌, eqb, leb, List, [], ◌∷◌, Option, Some, None, slice_get, arith, refl, sym, ◌∙◌, ⊎_elim}
 use Rattle.std.specs.List.{filter, sum_by, count_by}
 use Rattle.std.proofs.lemmas.List.Sums.{sum_by-cons, sum_by-le-sum_by}
 use Rattle.std.proofs.lemmas.Bool.{cases_lt}
@@ -9,6 +9,7 @@ use Rattle.layout_geom.specs.declared.rect.Rect.{Rect}
 use Rattle.box_search.specs.declared.space.Shape.{Shape}
 use Rattle.line_quality.specs.Points.{middle_of, is_crossed, column_of}
 use Rattle.line_quality.specs.Scores.{weight_of, is_of, group_weight}
+use Rattle.line_quality.proofs.Scored.{first_or_none, in_its_column}
 use Rattle.line_search.specs.Shapes.{IsInside}
 use Rattle.line_search.specs.Bounds.{most_weight, all_cross, sure_column, is_surely, most_in_column}
 use Rattle.line_search.proofs.Heights.{weight_below, between}
@@ -71,20 +72,6 @@ kept_first f x ps qs false false holds less = less
 kept_sum : (p q : ℕ → Bool) (f : ℕ → ℕ) → ((x : ℕ) → p x ≡ true → q x ≡ true) → (xs : List ℕ) → sum_by f (filter p xs) ≤ sum_by f (filter q xs)
 kept_sum p q f stricter [] = omega arith
 kept_sum p q f stricter (x ∷ xs) = kept_first f x (filter p xs) (filter q xs) (p x) (q x) (stricter x) (kept_sum p q f stricter xs)
-
-test_cases : (b : Bool) → (b ≡ true) ⊎ (b ≡ false)
-test_cases true = inl refl
-test_cases false = inr refl
-
-pub first_or_none : (p : ℕ → Bool) (f : ℕ → ℕ) (xs : List ℕ) → ((x : ℕ) × (p x ≡ true)) ⊎ (sum_by f (filter p xs) ≡ 0)
-first_or_none p f [] = inr refl
-first_or_none p f (x ∷ xs) = ⊎_elim
-    (λ yes. inl (x, yes))
-    (λ no. ⊎_elim (λ found. inl found) (λ none. inr (rw no none)) (first_or_none p f xs))
-    (test_cases (p x))
-
-pub in_its_column : (a c w : ℕ) → (eqb a c && ltb 0 w) ≡ true → a ≡ c
-in_its_column a c w holds = grind (arith, nat_tests)
 
 same_eqb : (a b : ℕ) → a ≡ b → eqb a b ≡ true
 same_eqb a b same = grind (arith, nat_tests)

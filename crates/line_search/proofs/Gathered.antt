@@ -22,7 +22,7 @@ use Rattle.line_search.specs.GridLaws.{admitted_here, grid_positive}
 use Rattle.line_search.specs.Windows.{stands_in, standing, within, IsSearchedWindow, HasFeet, HaveFeet}
 use Rattle.line_search.proofs.Reaching.{filter_twice}
 use Rattle.line_search.proofs.Margins.{any_kept}
-use Rattle.line_search.proofs.Scored.{score_exists}
+use Rattle.line_quality.proofs.Scored.{score_exists}
 use Rattle.line_search.proofs.Taking.{IsGridAnswer, IsAdmissibleIn, admits, same_number}
 
 -- what holds of each box holds of one that is read

@@ -11,7 +11,6 @@ pub mod Steps
 pub mod Rounding
 pub mod Taking
 pub mod Rising
-pub mod Scored
 pub mod Margins
 pub mod Gathered
 pub mod Few

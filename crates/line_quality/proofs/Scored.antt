@@ -1,11 +1,12 @@
 -- Each point of the grid has a score.
-use Rattle.std.proofs.Common.{◌≡◌, ℕ, zero, suc, ◌<◌, ◌≤◌, ℤ, true, false, ◌&&◌, leb, List, length, Option, Some, None, slice_get, arith, refl, ap, ⊎_elim}
+use Rattle.std.proofs.Common.{◌≡◌, ℕ, zero, suc, ◌⊎◌, inl, inr, ◌<◌, ◌≤◌, ℤ, Bool, true, false, ◌&&◌, leb, ltb, eqb, List, [], ◌∷◌, length, Option, Some, None, slice_get, arith, refl, ap, ⊎_elim}
+use Rattle.std.specs.List.{filter, sum_by}
 use Rattle.std.proofs.lemmas.Bool.{cases_lt}
+use Rattle.std.proofs.lemmas.Bool.Decides.{nat_tests}
 use Rattle.std.proofs.lemmas.List.Sums.{count_by-le-length}
 use Rattle.layout_geom.specs.declared.rect.Rect.{Rect}
 use Rattle.line_quality.specs.Points.{middle_of, is_crossed}
 use Rattle.line_quality.specs.Scores.{weight_of, is_of, group_weight, IsScore}
-use Rattle.line_search.proofs.Columns.{first_or_none, in_its_column}
 
 -- the greatest weight of the first columns, and the least column that has it
 record Best (weigh : ℕ → ℕ) (count : ℕ) : Type 0 where
@@ -47,6 +48,20 @@ best_of weigh (suc n) =
       inside = omega (arith, best.inside);
     })
     (cases_lt best.score (weigh (suc n)))
+
+test_cases : (b : Bool) → (b ≡ true) ⊎ (b ≡ false)
+test_cases true = inl refl
+test_cases false = inr refl
+
+pub first_or_none : (p : ℕ → Bool) (f : ℕ → ℕ) (xs : List ℕ) → ((x : ℕ) × (p x ≡ true)) ⊎ (sum_by f (filter p xs) ≡ 0)
+first_or_none p f [] = inr refl
+first_or_none p f (x ∷ xs) = ⊎_elim
+    (λ yes. inl (x, yes))
+    (λ no. ⊎_elim (λ found. inl found) (λ none. inr (rw no none)) (first_or_none p f xs))
+    (test_cases (p x))
+
+pub in_its_column : (a c w : ℕ) → (eqb a c && ltb 0 w) ≡ true → a ≡ c
+in_its_column a c w holds = grind (arith, nat_tests)
 
 module _ (slope offset : ℤ) (depth : ℕ) (boxes gutters : List Rect) (alive : List ℕ) where
   few_columns : (in_column : ℕ) (o : Option Rect) → is_of slope offset depth gutters in_column o ≡ true → in_column ≤ length gutters
