@@ -1,8 +1,9 @@
 //! The bytes of the input one after the other, in whatever pieces the source hands them out.
-ghost use Rattle.std.specs.Prelude.{◌≡◌, ◌<◌, ◌≤◌, ◌-◌, ℕ, List, [], ◌∷◌, ◌++◌, length};
+ghost use Rattle.std.specs.Prelude.{◌≡◌, ◌<◌, ◌≤◌, ◌⊎◌, ◌-◌, ℕ, false, List, [], ◌∷◌, ◌++◌, length, Some, None};
 ghost use Rattle.std.specs.Prelude.{take, drop, min, IfSome, IfNone, IfOk, OnOk, OnErr, IsTrue, ◌↔◌, vec_len};
 ghost use Rattle.layout_outside.specs.Taken.{HasEnded, HasSourceCause, Took, TookAll, TookPart};
-ghost use Rattle.pbm_reader.specs.Feed.{FeedView, with_unread};
+ghost use Rattle.layout_outside.specs.Views.{IsRead};
+ghost use Rattle.pbm_reader.specs.Feed.{FeedView, PieceView, fed, is_limited, seen, unseen, with_unread};
 
 use crate::limits::MAX_PIECE;
 use layout_limits::OutOfMemory;
@@ -10,45 +11,62 @@ use layout_outside::{Failed, Source};
 use std::alloc::Global;
 use std::marker::Model;
 
+/// Reads bytes to the front of a buffer, no more than so many.
+fn read_within<S: Source>(src: &mut S, bytes: &mut [u8], room: u64) -> Result<usize, Failed>
+    requires some { 0 < length bytes.old }
+    requires room { 0 < room }
+    ensures read { IsRead (S.view src.old) (S.view src.new) bytes.new result }
+    ensures fits { IfOk result (λ count. count ≤ room) }
+{
+    let len = room.min(bytes.len() as u64) as usize;
+    src.read(&mut bytes[..len])
+}
+
 /// The unread bytes of a piece of the input. It can outlive the call that read it.
 #[derive(Drop)]
 pub struct Piece {
     bytes: Vec<u8>,
     at: usize,
     end: usize,
+    // How many bytes may still be read, where that is limited.
+    room: Option<u64>,
 }
 
 impl Model for Piece {
-    ghost Value = { List ℕ };
+    ghost Value = { PieceView };
 
-    ghost view = { λ p. take (p.end - p.at) (drop p.at p.bytes.items) };
+    ghost view = { λ p. record { unread = take (p.end - p.at) (drop p.at p.bytes.items); room = p.room } };
 
-    ghost invariant = { λ p. (p.at ≤ p.end) × (p.end ≤ vec_len p.bytes) × (0 < vec_len p.bytes) };
+    // a piece without bytes of its own reads nothing
+    ghost invariant = { λ p. (p.at ≤ p.end) × (p.end ≤ vec_len p.bytes) × ((0 < vec_len p.bytes) ⊎ (p.room ≡ Some 0)) };
 }
 
 impl Piece {
-    /// A piece with nothing unread.
+    /// A piece with nothing unread, and with no limit to what may be read.
     pub fn new(alloc: Global) -> Result<Piece, OutOfMemory>
-        ensures { IfOk result (λ piece. piece ≡ []) }
+        ensures unread { IfOk result (λ piece. piece.unread ≡ []) }
+        ensures room { IfOk result (λ piece. piece.room ≡ None) }
     {
         let bytes = vec![in alloc; 0; MAX_PIECE]?;
         Ok(Piece {
             bytes,
             at: 0,
             end: 0,
+            room: None,
         })
     }
 
     fn is_empty(&self) -> bool
-        ensures { IsTrue result ↔ (self.now ≡ []) }
+        ensures { IsTrue result ↔ (self.now.unread ≡ []) }
     {
         self.at == self.end
     }
 
     /// The next unread byte.
     fn pop(&mut self) -> Option<u8>
-        ensures some { IfSome result (λ byte. self.old ≡ byte ∷ self.new) }
-        ensures none { IfNone result ((self.old ≡ []) × (self.new ≡ [])) }
+        ensures some { IfSome result (λ byte. self.old.unread ≡ byte ∷ self.new.unread) }
+        ensures none { IfNone result ((self.old.unread ≡ []) × (self.new.unread ≡ [])) }
+        ensures room { self.new.room ≡ self.old.room }
     {
         if self.at == self.end {
             return None;
@@ -60,8 +78,9 @@ impl Piece {
 
     /// Moves unread bytes to the front of a buffer, as many as there are and fit, and says how many.
     fn copy_to(&mut self, buf: &mut [u8]) -> usize
-        ensures count { result ≡ min (length self.old) (length buf.old) }
-        ensures bytes { self.old ≡ take result buf.new ++ self.new }
+        ensures count { result ≡ min (length self.old.unread) (length buf.old) }
+        ensures bytes { self.old.unread ≡ take result buf.new ++ self.new.unread }
+        ensures room { self.new.room ≡ self.old.room }
     {
         let count = (self.end - self.at).min(buf.len());
         let end = self.at + count;
@@ -72,24 +91,35 @@ impl Piece {
 
     /// Drops the unread bytes, and says how many there were.
     fn clear(&mut self) -> usize
-        ensures count { result ≡ length self.old }
-        ensures empty { self.new ≡ [] }
+        ensures count { result ≡ length self.old.unread }
+        ensures empty { self.new.unread ≡ [] }
+        ensures room { self.new.room ≡ self.old.room }
     {
         let count = self.end - self.at;
         self.at = self.end;
         count
     }
 
-    /// Reads the next piece, in the place of the last.
+    /// Reads the next piece, in the place of the last. Where nothing may be read it does nothing.
     fn refill<S: Source>(&mut self, src: &mut S) -> Result<(), Failed>
-        ensures bytes { OnOk result (Took (S.view src.old) (S.view src.new) self.new) }
-        ensures end { OnOk result (self.new ≡ [] → HasEnded (S.view src.new)) }
-        ensures err { OnErr result ((self.new ≡ []) × ((S.view src.new).left ≡ (S.view src.old).left)) }
+        ensures bytes { OnOk result (Took (seen self.old.room (S.view src.old)) (seen self.new.room (S.view src.new)) self.new.unread) }
+        ensures end { OnOk result (self.new.unread ≡ [] → HasEnded (seen self.new.room (S.view src.new))) }
+        ensures empty { OnErr result (self.new.unread ≡ []) }
+        ensures err { OnErr result (Took (seen self.old.room (S.view src.old)) (seen self.new.room (S.view src.new)) []) }
+        ensures unseen { unseen self.new.room (S.view src.new) ≡ unseen self.old.room (S.view src.old) }
+        ensures limited { is_limited self.new.room ≡ is_limited self.old.room }
         ensures cause { HasSourceCause (S.view src.old) (S.view src.new) result }
     {
         self.at = 0;
         self.end = 0;
-        self.end = src.read(&mut self.bytes)?;
+        match self.room {
+            None => self.end = src.read(&mut self.bytes)?,
+            Some(0) => {}
+            Some(room) => {
+                self.end = read_within(src, &mut self.bytes, room)?;
+                self.room = Some(room - self.end as u64);
+            }
+        }
         Ok(())
     }
 }
@@ -104,27 +134,21 @@ pub struct Feed<'s, S: Source> {
 impl<'s, S: Source> Model for Feed<'s, S> {
     ghost Value = { FeedView };
 
-    ghost view = { λ f. record {
-      source = with_unread f.piece (S.view f.src.now);
-      unread = f.piece;
-      borrow = f.src.ghost_name;
-    } };
+    ghost view = { λ f. fed f.src.ghost_name (S.view f.src.now) f.piece };
 }
 
 impl<'s, S: Source> Feed<'s, S> {
     /// A feed of a source, of which this piece is unread.
     pub fn new(src: &'s mut S, piece: Piece) -> Feed<'s, S>
-        ensures source { result.source ≡ with_unread piece (S.view src.old) }
-        ensures unread { result.unread ≡ piece }
-        ensures borrow { result.borrow ≡ src.entry.ghost_name }
+        ensures { result ≡ fed src.entry.ghost_name (S.view src.old) piece }
     {
         Feed { src, piece }
     }
 
     /// Gives the source back, and drops what is unread.
     pub fn into_source(self) -> &'s mut S
-        ensures source { self.entry.source ≡ with_unread self.entry.unread (S.view result.now) }
-        ensures borrow { result.ghost_name ≡ self.entry.borrow }
+        ensures source { self.entry.borrow.is_limited ≡ false → self.entry.source ≡ with_unread self.entry.unread (S.view result.now) }
+        ensures borrow { result.ghost_name ≡ self.entry.borrow.name }
     {
         self.src
     }
