@@ -13,17 +13,19 @@ use Rattle.pbm_reader.specs.declared.state.HeaderState.{HeaderState}
 use Rattle.pbm_reader.specs.declared.state.HeaderState.TheVariants.{Magic, Named, Whole}
 use Rattle.packed_rows.specs.Page.{IsPageSize}
 use Rattle.pbm_reader.specs.Spelling.{IsHeader, magic}
-use Rattle.pbm_reader.specs.Header.{next_state, wrong_byte, missing_byte, IsOfHeader, NameFails, TookSizes, TookHeader}
-use Rattle.pbm_reader.specs.Fault.{Begins, HasFault, HasFaultWithin, IsSizeFault, DecidesNothing, IsTruncated, IsHeaderTooLong}
+use Rattle.pbm_reader.specs.Header.{form_of, next_state, wrong_byte, missing_byte, IsNameFault, IsOfHeader, NameFails, TookSizes, TookHeader}
+use Rattle.pbm_reader.specs.Fault.{Begins, HasFault, HasMagic, IsMagicFault, HasFaultWithin, IsSizeFault, DecidesNothing, IsTruncated, IsHeaderTooLong}
 use Rattle.layout_outside.specs.Views.{SourceView}
 use Rattle.layout_outside.specs.Taken.{Took, TookAll}
 use Rattle.pbm_reader.specs.Reading.{Refuses}
-use Rattle.pbm_reader.proofs.Taken.{took_more, took_no_more, took_all, prepend_nothing, of_all, of_end}
+use Rattle.pbm_reader.proofs.Taken.{known_map, took_more, took_no_more, took_all, of_all, of_end}
+use Rattle.pbm_reader.proofs.Gaps.{none_some}
+use Rattle.pbm_reader.proofs.Splits.{head_is, second_is}
 use Rattle.pbm_reader.proofs.Machines.{run, run_append, IsOpen}
 use Rattle.pbm_reader.proofs.HeaderWalk.{is_whole, header_machine, read_header, whole_is, whole_width, whole_height}
 use Rattle.pbm_reader.proofs.RawImages.{header_begins, begins_more, one_name}
 use Rattle.pbm_reader.proofs.Faults.{IsNamed, byte_faults, read_so_far, header_cut, wrong_fault, missing_fault, too_long, size_fault, told_size}
-use Rattle.pbm_reader.proofs.OneFault.{has_fault, nothing_undecided, letter_undecided, cut_undecided}
+use Rattle.pbm_reader.proofs.OneFault.{has_fault, letter_fault, nothing_undecided, letter_undecided, cut_undecided}
 
 -- these bytes of a header were taken, and lead to this state
 pub record IsReading (old now : SourceView) (at : ℕ) (state : HeaderState) : Type 0 where
@@ -224,12 +226,15 @@ reading_undecided old middle new at state r none low = (
 -- ---- the name
 
 pub name_refuses : (old new : SourceView) (fault : PageFault) → NameFails old new fault → Refuses old new fault
-name_refuses old new (faults.Magic at) f = f
-name_refuses old new faults.ReadFault f =
-    (f.0, f.1, elim f.2 [
-      | inl none ↦ subst DecidesNothing (sym none) nothing_undecided
-      | inr letter ↦ subst DecidesNothing (sym letter) letter_undecided
-    ])
+name_refuses old new (faults.Magic at) f = known_map old.left (λ input. IsNameFault new at input) (λ input. IsMagicFault input at) (λ input n. n.fault) f
+name_refuses old new faults.ReadFault f = (
+  f.0,
+  f.1,
+  elim f.2 [
+    | inl none ↦ subst DecidesNothing (sym none) nothing_undecided
+    | inr letter ↦ subst DecidesNothing (sym letter) letter_undecided
+  ],
+)
 name_refuses old new (faults.Header at) f = absurd f
 name_refuses old new faults.HeaderTooLong f = absurd f
 name_refuses old new faults.ZeroSize f = absurd f
@@ -301,3 +306,39 @@ size_of_header width height faults.Memory s = absurd s
 -- the input ends before the name
 pub nothing_named : (old new : SourceView) → TookAll old new [] → IfSome old.left (λ input. HasFault input (faults.Magic 0))
 nothing_named old new end = of_end (λ input. HasFault input (faults.Magic 0)) old new [] end (inl (refl, λ b. omega (arith, ap length b.1)))
+
+-- ---- the name, byte by byte
+
+pub not_first : (old new : SourceView) (byte : ℕ) → Took old new (byte ∷ []) → (byte ≡ 80 → ⊥) → NameFails old new (faults.Magic 0)
+not_first old new byte took other =
+    of_all (λ input. IsNameFault new 0 input) old new (byte ∷ []) took
+    (λ rest. record { fault = inl (refl, λ b. other (head_is byte 80 rest b.0 b.1)); ended = λ e. absurd (omega (arith, e)); some = λ e. omega arith })
+
+pub no_second : (old middle new : SourceView) → Took old middle (80 ∷ []) → TookAll middle new [] → NameFails old new (faults.Magic 1)
+no_second old middle new took end =
+    of_end (λ input. IsNameFault new 1 input) old new (80 ∷ []) (took_all old middle new (80 ∷ []) [] took end) (record { fault = letter_fault; ended = λ e. end.end; some = λ e. omega arith })
+
+pub not_second : (old middle new : SourceView) (byte : ℕ) → Took old middle (80 ∷ []) → Took middle new (byte ∷ []) → form_of byte ≡ None → NameFails old new (faults.Magic 1)
+not_second old middle new byte took more none =
+    of_all (λ input. IsNameFault new 1 input) old new (80 ∷ byte ∷ []) (took_more old middle new (80 ∷ []) (byte ∷ []) took more)
+    (λ rest. record { fault = inr (refl, (byte ∷ rest, refl), λ m. no_form rest m); ended = λ e. absurd (omega (arith, e)); some = λ e. omega arith })
+  where
+    named : (digit : ℕ) (form : Form) → form_of digit ≡ Some form → byte ≡ digit → ⊥
+    named digit form is e = absurd (none_some form (sym none ∙ ap form_of e ∙ is))
+
+    no_form : (rest : List ℕ) → HasMagic (80 ∷ byte ∷ rest) → ⊥
+    no_form rest (inl b) = named 49 Plain refl (second_is 80 byte 80 49 rest b.0 b.1)
+    no_form rest (inr b) = named 52 Raw refl (second_is 80 byte 80 52 rest b.0 b.1)
+
+pub wrong_not_cut : (state : HeaderState) (at end : ℕ) → wrong_byte state at ≡ faults.Truncated end → ⊥
+wrong_not_cut state at end e =
+    elim (byte_faults state at) [
+      | inl name ↦ differ at end (sym name.1 ∙ e)
+      | inr behind ↦ other at end (sym behind.1 ∙ e)
+    ]
+  where
+    differ : (m n : ℕ) → faults.Magic m ≡ faults.Truncated n → ⊥
+    differ m n e = cc
+
+    other : (m n : ℕ) → faults.Header m ≡ faults.Truncated n → ⊥
+    other m n e = cc

@@ -1,6 +1,6 @@
 -- Bytes that are taken one after the other.
 use Rattle.std.proofs.Common.{◌≡◌, ℕ, ◌+◌, ◌<◌, List, [], ◌∷◌, ◌++◌, length, take, set, Option, Some, None, Result, Ok, Err, refl, sym, ap, ◌∙◌, append_assoc, subst}
-use Rattle.std.specs.Prelude.{IfSome, IfNone, IfOk, IfErr, OnOk}
+use Rattle.std.specs.Prelude.{IfSome, IfNone, IfOk, IfErr}
 use Rattle.std.proofs.lemmas.List.{append-nil, take_more_set}
 use Rattle.std.specs.Io.KnownBytes.{prepend_known, IsAtEnd}
 use Rattle.layout_outside.specs.Views.{SourceView}
@@ -68,3 +68,7 @@ ok_map (Err e) P Q f p = p
 pub err_map : {T E : Type 0} (r : Result T E) (P Q : E → Type 0) → ((e : E) → P e → Q e) → IfErr r P → IfErr r Q
 err_map (Ok x) P Q f p = p
 err_map (Err e) P Q f p = f e p
+
+pub known_map : (o : Option (List ℕ)) (P Q : List ℕ → Type 0) → ((x : List ℕ) → P x → Q x) → IfSome o P → IfSome o Q
+known_map None P Q f p = tt
+known_map (Some x) P Q f p = f x p

@@ -34,17 +34,23 @@ abbrev pub is_limited : Option ℕ → Bool
 is_limited None = false
 is_limited (Some room) = true
 
--- A piece: its unread bytes, and how many bytes may still be read behind them, where that is limited.
+-- A piece: its unread bytes; how many bytes may still be read behind them, where that is limited; and how many bytes it can hold.
 pub record PieceView : Type 0 where
   pub unread : List ℕ
   pub room : Option ℕ
+  pub space : ℕ
+
+-- a source, as it is seen, with the unread bytes of a piece
+abbrev pub whole : PieceView → SourceView → SourceView
+whole piece source = with_unread piece.unread (seen piece.room source)
 
 -- What no call of a feed changes: the name of the borrow of its source, by which a caller knows that a feed still has the source that
--- it was made of; whether what may be read is limited; and what is left behind that.
+-- it was made of; whether what may be read is limited; what is left behind that; and how many bytes its piece can hold.
 pub record Loan : Type 0 where
   pub name : ℕ
   pub is_limited : Bool
   pub unseen : Option (List ℕ)
+  pub space : ℕ
 
 -- A feed: its source, as it is seen, with the unread bytes of the piece; those bytes; and its loan.
 pub record FeedView : Type 0 where
@@ -55,7 +61,7 @@ pub record FeedView : Type 0 where
 -- the feed of a source and a piece
 abbrev pub fed : ℕ → SourceView → PieceView → FeedView
 fed name source piece = record {
-  source = with_unread piece.unread (seen piece.room source);
+  source = whole piece source;
   unread = piece.unread;
-  borrow = record { name = name; is_limited = is_limited piece.room; unseen = unseen piece.room source };
+  borrow = record { name = name; is_limited = is_limited piece.room; unseen = unseen piece.room source; space = piece.space };
 }

@@ -1,7 +1,7 @@
 -- What one more byte makes of a header that is read so far, and what the private calls of the header's reader took.
-use Rattle.std.specs.Prelude.{ℕ, ◌+◌, ◌-◌, ◌*◌, ◌==◌, min, Option, Some, None, option_map, if◌then◌else◌, ◌≡◌, ◌≤◌, ◌⊎◌, List, [], length, IfSome, codes, ⊤}
+use Rattle.std.specs.Prelude.{ℕ, ◌+◌, ◌-◌, ◌*◌, ◌==◌, min, Option, Some, None, option_map, if◌then◌else◌, ◌≡◌, ◌≤◌, ◌<◌, ◌⊎◌, List, [], length, IfSome, codes, ⊤}
 use Rattle.layout_outside.specs.Views.{SourceView}
-use Rattle.layout_outside.specs.Taken.{Took}
+use Rattle.layout_outside.specs.Taken.{HasEnded, Took}
 use Rattle.pbm_reader.specs.declared.limits.TheConstants.{MAX_HEADER, MAX_NUMBER}
 use Rattle.pbm_reader.specs.declared.header.Header.{Header}
 use Rattle.pbm_reader.specs.declared.header.Told.{Told}
@@ -63,9 +63,15 @@ missing_byte Magic at = faults.Magic at
 missing_byte Kind at = faults.Magic at
 missing_byte state at = faults.Truncated at
 
+-- the name has a fault here; where it stands at the end of the input, this was answered
+pub record IsNameFault (new : SourceView) (at : ℕ) (input : List ℕ) : Type 0 where
+  pub fault : IsMagicFault input at
+  pub ended : at ≡ length input → HasEnded new
+  pub some : at ≡ 0 → 0 < length input
+
 -- why the name of a form was not read
 abbrev pub NameFails : SourceView → SourceView → PageFault → Type 0
-NameFails old new (faults.Magic at) = IfSome old.left (λ input. IsMagicFault input at)
+NameFails old new (faults.Magic at) = IfSome old.left (λ input. IsNameFault new at input)
 NameFails old new faults.ReadFault = (taken : List ℕ) × Took old new taken × ((taken ≡ []) ⊎ (taken ≡ codes "P"))
 NameFails old new fault = ⊥
 

@@ -1,9 +1,9 @@
 //! The bytes of the input one after the other, in whatever pieces the source hands them out.
-ghost use Rattle.std.specs.Prelude.{◌≡◌, ◌<◌, ◌≤◌, ◌⊎◌, ◌-◌, ℕ, false, List, [], ◌∷◌, ◌++◌, length, Some, None};
+ghost use Rattle.std.specs.Prelude.{◌≡◌, ◌<◌, ◌≤◌, ◌⊎◌, ◌-◌, ◌+◌, ℕ, false, List, [], ◌∷◌, ◌++◌, length, Some, None};
 ghost use Rattle.std.specs.Prelude.{take, drop, min, IfSome, IfNone, IfOk, OnOk, OnErr, IsTrue, ◌↔◌, vec_len};
 ghost use Rattle.layout_outside.specs.Taken.{HasEnded, HasSourceCause, Took, TookAll, TookPart};
 ghost use Rattle.layout_outside.specs.Views.{IsRead};
-ghost use Rattle.pbm_reader.specs.Feed.{FeedView, PieceView, fed, is_limited, seen, unseen, with_unread};
+ghost use Rattle.pbm_reader.specs.Feed.{FeedView, PieceView, fed, is_limited, seen, unseen, whole, with_unread};
 
 use crate::limits::MAX_PIECE;
 use layout_limits::OutOfMemory;
@@ -35,7 +35,7 @@ pub struct Piece {
 impl Model for Piece {
     ghost Value = { PieceView };
 
-    ghost view = { λ p. record { unread = take (p.end - p.at) (drop p.at p.bytes.items); room = p.room } };
+    ghost view = { λ p. record { unread = take (p.end - p.at) (drop p.at p.bytes.items); room = p.room; space = vec_len p.bytes } };
 
     // a piece without bytes of its own reads nothing
     ghost invariant = { λ p. (p.at ≤ p.end) × (p.end ≤ vec_len p.bytes) × ((0 < vec_len p.bytes) ⊎ (p.room ≡ Some 0)) };
@@ -46,6 +46,7 @@ impl Piece {
     pub fn new(alloc: Global) -> Result<Piece, OutOfMemory>
         ensures unread { IfOk result (λ piece. piece.unread ≡ []) }
         ensures room { IfOk result (λ piece. piece.room ≡ None) }
+        ensures space { IfOk result (λ piece. 0 < piece.space) }
     {
         let bytes = vec![in alloc; 0; MAX_PIECE]?;
         Ok(Piece {
@@ -54,6 +55,35 @@ impl Piece {
             end: 0,
             room: None,
         })
+    }
+
+    /// A piece with nothing unread, which reads nothing and takes no memory.
+    pub fn closed(alloc: Global) -> Piece
+        ensures { result.unread ≡ [] }
+    {
+        Piece {
+            bytes: Vec::new(alloc),
+            at: 0,
+            end: 0,
+            room: Some(0),
+        }
+    }
+
+    /// Limits what may be read to so many bytes.
+    pub fn limit(&mut self, room: u64)
+        requires { 0 < self.old.space }
+        ensures room { self.new.room ≡ Some room }
+        ensures unread { self.new.unread ≡ self.old.unread }
+        ensures space { self.new.space ≡ self.old.space }
+    {
+        self.room = Some(room);
+    }
+
+    /// How many bytes are unread.
+    pub fn len(&self) -> usize
+        ensures { result ≡ length self.now.unread }
+    {
+        self.end - self.at
     }
 
     fn is_empty(&self) -> bool
@@ -67,6 +97,7 @@ impl Piece {
         ensures some { IfSome result (λ byte. self.old.unread ≡ byte ∷ self.new.unread) }
         ensures none { IfNone result ((self.old.unread ≡ []) × (self.new.unread ≡ [])) }
         ensures room { self.new.room ≡ self.old.room }
+        ensures space { self.new.space ≡ self.old.space }
     {
         if self.at == self.end {
             return None;
@@ -81,6 +112,7 @@ impl Piece {
         ensures count { result ≡ min (length self.old.unread) (length buf.old) }
         ensures bytes { self.old.unread ≡ take result buf.new ++ self.new.unread }
         ensures room { self.new.room ≡ self.old.room }
+        ensures space { self.new.space ≡ self.old.space }
     {
         let count = (self.end - self.at).min(buf.len());
         let end = self.at + count;
@@ -94,6 +126,7 @@ impl Piece {
         ensures count { result ≡ length self.old.unread }
         ensures empty { self.new.unread ≡ [] }
         ensures room { self.new.room ≡ self.old.room }
+        ensures space { self.new.space ≡ self.old.space }
     {
         let count = self.end - self.at;
         self.at = self.end;
@@ -106,8 +139,11 @@ impl Piece {
         ensures end { OnOk result (self.new.unread ≡ [] → HasEnded (seen self.new.room (S.view src.new))) }
         ensures empty { OnErr result (self.new.unread ≡ []) }
         ensures err { OnErr result (Took (seen self.old.room (S.view src.old)) (seen self.new.room (S.view src.new)) []) }
+        ensures none { OnOk result (self.new.unread ≡ [] → self.new.room ≡ self.old.room) }
+        ensures fits { OnOk result ((room : ℕ) → self.old.room ≡ Some room → length self.new.unread ≤ room) }
         ensures unseen { unseen self.new.room (S.view src.new) ≡ unseen self.old.room (S.view src.old) }
         ensures limited { is_limited self.new.room ≡ is_limited self.old.room }
+        ensures space { self.new.space ≡ self.old.space }
         ensures cause { HasSourceCause (S.view src.old) (S.view src.new) result }
     {
         self.at = 0;
@@ -121,6 +157,29 @@ impl Piece {
             }
         }
         Ok(())
+    }
+}
+
+impl Piece {
+    /// The next byte, or none at the end of what may be read. Where a byte is unread nothing is read.
+    pub fn next_byte<S: Source>(&mut self, src: &mut S) -> Result<Option<u8>, Failed>
+        ensures byte { IfOk result (λ next. IfSome next (λ byte. Took (whole self.old (S.view src.old)) (whole self.new (S.view src.new)) (byte ∷ []))) }
+        ensures end { IfOk result (λ next. IfNone next (TookAll (whole self.old (S.view src.old)) (whole self.new (S.view src.new)) [])) }
+        ensures none { IfOk result (λ next. IfNone next (self.new.room ≡ self.old.room)) }
+        ensures err { OnErr result (Took (whole self.old (S.view src.old)) (whole self.new (S.view src.new)) []) }
+        ensures drained { OnErr result (self.new.unread ≡ []) }
+        ensures held { 0 < length self.old.unread → (src.new ≡ src.old) × IfOk result (λ next. IfSome next (λ byte. self.old.unread ≡ byte ∷ self.new.unread)) }
+        ensures fits { IfOk result (λ next. IfSome next (λ _. (room : ℕ) → self.old.room ≡ Some room → length self.new.unread + 1 ≤ length self.old.unread + room)) }
+        ensures unseen { unseen self.new.room (S.view src.new) ≡ unseen self.old.room (S.view src.old) }
+        ensures limited { is_limited self.new.room ≡ is_limited self.old.room }
+        ensures space { self.new.space ≡ self.old.space }
+        ensures cause { HasSourceCause (S.view src.old) (S.view src.new) result }
+    {
+        if let Some(byte) = self.pop() {
+            return Ok(Some(byte));
+        }
+        self.refill(src)?;
+        Ok(self.pop())
     }
 }
 
@@ -153,6 +212,14 @@ impl<'s, S: Source> Feed<'s, S> {
         self.src
     }
 
+    /// Gives the source back, and the piece with what is unread to the place of another.
+    pub fn close(self, piece: &mut Piece) -> &'s mut S
+        ensures feed { self.entry ≡ fed result.ghost_name (S.view result.now) piece.new }
+    {
+        *piece = self.piece;
+        self.src
+    }
+
     /// The next byte, or none at the end of the input.
     pub fn next_byte(&mut self) -> Result<Option<u8>, Failed>
         ensures byte { IfOk result (λ next. IfSome next (λ byte. Took self.old.source self.new.source (byte ∷ []))) }
@@ -162,11 +229,7 @@ impl<'s, S: Source> Feed<'s, S> {
         ensures same { self.new.borrow ≡ self.old.borrow }
         ensures cause { HasSourceCause self.old.source self.new.source result }
     {
-        if let Some(byte) = self.piece.pop() {
-            return Ok(Some(byte));
-        }
-        self.piece.refill(self.src)?;
-        Ok(self.piece.pop())
+        self.piece.next_byte(self.src)
     }
 
     /// Moves the next bytes to the front of a buffer, and says how many. None is the end of the input.

@@ -3,7 +3,7 @@ ghost use Rattle.std.specs.Prelude.{◌≡◌, ◌≤◌, ◌<◌, ◌^◌, List
 ghost use Rattle.pbm_reader.specs.Page.{IsPageSize};
 ghost use Rattle.pbm_reader.specs.Reading.{HasReadCause, Refuses};
 ghost use Rattle.layout_outside.specs.Views.{SourceView};
-ghost use Rattle.layout_outside.specs.Taken.{Took, TookAll};
+ghost use Rattle.layout_outside.specs.Taken.{HasEnded, Took, TookAll};
 ghost use Rattle.pbm_reader.specs.Spelling.{magic};
 ghost use Rattle.pbm_reader.specs.Header.{wrong_byte, missing_byte, IsOfHeader, NameFails, TookHeader, TookSizes};
 ghost use Rattle.pbm_reader.specs.Fault.{IsSizeFault};
@@ -88,6 +88,7 @@ fn read_told<S: Source>(feed: &mut Feed<'_, S>, form: Form) -> Result<Told, Page
     ensures fault { IfErr result (λ fault. (first : SourceView) → Took first feed.old.source (magic form)
         → Refuses first feed.new.source fault) }
     ensures of_header { IfErr result IsOfHeader }
+    ensures ended { (at : ℕ) → result ≡ Err (PageFault.Truncated at) → HasEnded feed.new.source }
     ensures form { IfOk result (λ told. told.form ≡ form) }
     ensures drained { result ≡ Err PageFault.ReadFault → feed.new.unread ≡ [] }
     ensures same { feed.new.borrow ≡ feed.old.borrow }
@@ -135,15 +136,13 @@ fn page_size(width: u32, height: u32) -> Result<Size, PageFault>
 }
 
 /// Reads a header, behind the name of its form, with sizes that a page can have.
-pub(crate) fn read_sizes<S: Source>(
-    feed: &mut Feed<'_, S>,
-    form: Form,
-) -> Result<Header, PageFault>
+pub(crate) fn read_sizes<S: Source>(feed: &mut Feed<'_, S>, form: Form) -> Result<Header, PageFault>
     ensures header { IfOk result (λ header. (first : SourceView) → Took first feed.old.source (magic form)
         → TookHeader first feed.new.source header) }
     ensures fault { IfErr result (λ fault. (first : SourceView) → Took first feed.old.source (magic form)
         → Refuses first feed.new.source fault) }
     ensures of_header { IfErr result IsOfHeader }
+    ensures ended { (at : ℕ) → result ≡ Err (PageFault.Truncated at) → HasEnded feed.new.source }
     ensures form { IfOk result (λ header. header.form ≡ form) }
     ensures drained { result ≡ Err PageFault.ReadFault → feed.new.unread ≡ [] }
     ensures same { feed.new.borrow ≡ feed.old.borrow }

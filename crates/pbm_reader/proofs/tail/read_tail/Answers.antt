@@ -1,5 +1,4 @@
-use Rattle.std.proofs.Common.{◌+◌, ◌<◌, [], ◌∷◌, Result, Ok, Err, arith}
-use Rattle.std.specs.Prelude.{OnOk, IfErr}
+use Rattle.std.proofs.Common.{◌+◌, ◌<◌, [], ◌∷◌, arith}
 use Rattle.pbm_reader.specs.Spelling.{MayFollow}
 use Rattle.layout_outside.specs.Taken.{Took}
 use Rattle.pbm_reader.specs.Tail.{RestFails, TailFails, TookRest, TookTail}
