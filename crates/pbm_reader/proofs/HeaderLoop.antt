@@ -4,24 +4,28 @@ use Rattle.std.specs.Prelude.{IfSome}
 use Rattle.std.proofs.lemmas.Bool.{false_from_ne_true}
 use Rattle.std.proofs.lemmas.List.{length-append}
 use Rattle.pbm_reader.specs.declared.form.Form.{Form}
+use Rattle.pbm_reader.specs.declared.form.Form.TheVariants.{Plain, Raw}
 use Rattle.pbm_reader.specs.declared.header.Told.{Told}
 use Rattle.pbm_reader.specs.declared.fault.Size.{Size}
 use Rattle.pbm_reader.specs.declared.fault.PageFault.{PageFault}
 use Rattle.pbm_reader.specs.declared.fault.PageFault.TheVariants as faults
 use Rattle.pbm_reader.specs.declared.state.HeaderState.{HeaderState}
-use Rattle.pbm_reader.specs.declared.state.HeaderState.TheVariants.{Magic, Whole}
+use Rattle.pbm_reader.specs.declared.state.HeaderState.TheVariants.{Magic, Named, Whole}
 use Rattle.packed_rows.specs.Page.{IsPageSize}
-use Rattle.pbm_reader.specs.Spelling.{IsHeader}
-use Rattle.pbm_reader.specs.Header.{next_state, wrong_byte, missing_byte, TookSizes, TookHeader}
-use Rattle.pbm_reader.specs.Fault.{HasFault, HasFaultWithin, IsSizeFault, DecidesNothing, IsTruncated, IsHeaderTooLong}
+use Rattle.pbm_reader.specs.Spelling.{IsHeader, magic}
+use Rattle.pbm_reader.specs.Header.{form_of, next_state, wrong_byte, missing_byte, IsNameFault, IsOfHeader, NameFails, TookSizes, TookHeader}
+use Rattle.pbm_reader.specs.Fault.{Begins, HasFault, HasMagic, IsMagicFault, HasFaultWithin, IsSizeFault, DecidesNothing, IsTruncated, IsHeaderTooLong}
 use Rattle.layout_outside.specs.Views.{SourceView}
 use Rattle.layout_outside.specs.Taken.{Took, TookAll}
 use Rattle.pbm_reader.specs.Reading.{Refuses}
-use Rattle.pbm_reader.proofs.Taken.{took_more, took_no_more, took_all, prepend_nothing, of_all, of_end}
+use Rattle.pbm_reader.proofs.Taken.{known_map, took_more, took_no_more, took_all, of_all, of_end}
+use Rattle.pbm_reader.proofs.Gaps.{none_some}
+use Rattle.pbm_reader.proofs.Splits.{head_is, second_is}
 use Rattle.pbm_reader.proofs.Machines.{run, run_append, IsOpen}
-use Rattle.pbm_reader.proofs.HeaderWalk.{is_whole, header_machine, read_header, whole_is, whole_form, whole_width, whole_height}
+use Rattle.pbm_reader.proofs.HeaderWalk.{is_whole, header_machine, read_header, whole_is, whole_width, whole_height}
+use Rattle.pbm_reader.proofs.RawImages.{header_begins, begins_more, one_name}
 use Rattle.pbm_reader.proofs.Faults.{IsNamed, byte_faults, read_so_far, header_cut, wrong_fault, missing_fault, too_long, size_fault, told_size}
-use Rattle.pbm_reader.proofs.OneFault.{has_fault, nothing_undecided, letter_undecided, cut_undecided}
+use Rattle.pbm_reader.proofs.OneFault.{has_fault, letter_fault, nothing_undecided, letter_undecided, cut_undecided}
 
 -- these bytes of a header were taken, and lead to this state
 pub record IsReading (old now : SourceView) (at : ℕ) (state : HeaderState) : Type 0 where
@@ -29,9 +33,6 @@ pub record IsReading (old now : SourceView) (at : ℕ) (state : HeaderState) : T
   pub took : Took old now taken
   pub len : length taken ≡ at
   pub leads : IsOpen header_machine taken state
-
-pub begins : (old : SourceView) → IsReading old old 0 Magic
-begins old = record { taken = []; took = prepend_nothing old.left; len = refl; leads = record { reads = refl; open_yet = refl } }
 
 one_more : (taken : List ℕ) (byte : ℕ) (state next : HeaderState) → run next_state Magic taken ≡ Some state → next_state state byte ≡ Some next → run next_state Magic (taken ++ byte ∷ []) ≡ Some next
 one_more taken byte state next reads step =
@@ -46,21 +47,51 @@ reading_on old middle new at byte state next r took step o = record {
   leads = record { reads = one_more r.taken byte state next r.leads.reads step; open_yet = o };
 }
 
-pub reading_whole : (old middle new : SourceView) (at byte : ℕ) (state : HeaderState) (form : Form) (width height : ℕ) → IsReading old middle at state → Took middle new (byte ∷ [])
-    → next_state state byte ≡ Some (Whole form width height) → at < 65536 → TookSizes old new (record { form = form; width = width; height = height; len = at + 1 })
-reading_whole old middle new at byte state form width height r took step low =
-    let h = read_header (r.taken ++ byte ∷ []) (Whole form width height) (one_more r.taken byte state (Whole form width height) r.leads.reads step) refl in
+-- these bytes begin with the name of this form
+pub record IsNamedReading (old now : SourceView) (form : Form) (at : ℕ) (state : HeaderState) : Type 0 where
+  pub reading : IsReading old now at state
+  pub named : Begins (magic form) reading.taken
+
+pub named_begins : (old now : SourceView) (form : Form) → Took old now (magic form) → IsNamedReading old now form 2 (Named form)
+named_begins old now Plain took = record { reading = record { taken = magic Plain; took = took; len = refl; leads = record { reads = refl; open_yet = refl } }; named = ([], refl) }
+named_begins old now Raw took = record { reading = record { taken = magic Raw; took = took; len = refl; leads = record { reads = refl; open_yet = refl } }; named = ([], refl) }
+
+pub named_on : (old middle new : SourceView) (form : Form) (at byte : ℕ) (state next : HeaderState) → IsNamedReading old middle form at state → Took middle new (byte ∷ [])
+    → next_state state byte ≡ Some next → is_whole next ≡ false → IsNamedReading old new form (at + 1) next
+unfolding reading_on
+named_on old middle new form at byte state next r took step o =
+    record { reading = reading_on old middle new at byte state next r.reading took step o; named = begins_more (magic form) r.reading.taken (byte ∷ []) r.named }
+
+-- a header has one name
+one_form : (bytes : List ℕ) (form named : Form) (width height : ℕ) → IsHeader bytes form width height → length bytes ≤ 65536 → Begins (magic named) bytes → form ≡ named
+one_form bytes form named width height h short b =
+    by_form form named (header_begins bytes bytes [] form width height (record { whole = sym (append-nil bytes); is_header = h; short = short })) b
+  where
+    by_form : (f g : Form) → Begins (magic f) bytes → Begins (magic g) bytes → f ≡ g
+    by_form Plain Plain x y = refl
+    by_form Plain Raw x y = absurd (one_name bytes x y)
+    by_form Raw Plain x y = absurd (one_name bytes y x)
+    by_form Raw Raw x y = refl
+
+pub reading_whole : (old middle new : SourceView) (named : Form) (at byte : ℕ) (state : HeaderState) (form : Form) (width height : ℕ) → IsNamedReading old middle named at state
+    → Took middle new (byte ∷ []) → next_state state byte ≡ Some (Whole form width height) → at < 65536
+    → TookSizes old new (record { form = named; width = width; height = height; len = at + 1 })
+reading_whole old middle new named at byte state form width height n took step low =
+    let r = n.reading in
+    let bytes = r.taken ++ byte ∷ [] in
+    let h = read_header bytes (Whole form width height) (one_more r.taken byte state (Whole form width height) r.leads.reads step) refl in
     let len = length-append r.taken (byte ∷ []) in
+    let short : length bytes ≤ 65536 = omega (arith, len, r.len, low) in
     record {
-      bytes = r.taken ++ byte ∷ [];
+      bytes = bytes;
       took = took_more old middle new r.taken (byte ∷ []) r.took took;
       width = h.width;
       height = h.height;
-      is_header = subst (λ (f : Form). IsHeader (r.taken ++ byte ∷ []) f h.width h.height) (whole_form h.form form (min h.width 999999999) (min h.height 999999999) width height (sym h.told)) h.is_header;
+      is_header = subst (λ (f : Form). IsHeader bytes f h.width h.height) (one_form bytes h.form named h.width h.height h.is_header short (begins_more (magic named) r.taken (byte ∷ []) n.named)) h.is_header;
       width_told = whole_width form h.form width height (min h.width 999999999) (min h.height 999999999) h.told;
       height_told = whole_height form h.form width height (min h.width 999999999) (min h.height 999999999) h.told;
       len = omega (arith, len, r.len);
-      short = omega (arith, len, r.len, low);
+      short = short;
     }
 
 -- a state that is no whole header
@@ -88,6 +119,25 @@ other_fault : (fault : PageFault) (at : ℕ) → (fault ≡ faults.Magic at) ⊎
 other_fault fault at (inl f) e = cc
 other_fault fault at (inr (inl f)) e = cc
 other_fault fault at (inr (inr f)) e = cc
+
+in_header : (fault : PageFault) (at : ℕ) → (fault ≡ faults.Magic at) ⊎ ((fault ≡ faults.Header at) ⊎ (fault ≡ faults.Truncated at)) → IsOfHeader fault
+in_header fault at (inl f) = subst IsOfHeader (sym f) tt
+in_header fault at (inr (inl f)) = subst IsOfHeader (sym f) tt
+in_header fault at (inr (inr f)) = subst IsOfHeader (sym f) tt
+
+pub wrong_of_header : (state : HeaderState) (at : ℕ) → IsOfHeader (wrong_byte state at)
+wrong_of_header state at =
+    elim (byte_faults state at) [
+      | inl name ↦ in_header (wrong_byte state at) at (inl name.1)
+      | inr behind ↦ in_header (wrong_byte state at) at (inr (inl behind.1))
+    ]
+
+pub missing_of_header : (state : HeaderState) (at : ℕ) → IsOfHeader (missing_byte state at)
+missing_of_header state at =
+    elim (byte_faults state at) [
+      | inl name ↦ in_header (missing_byte state at) at (inl name.2)
+      | inr behind ↦ in_header (missing_byte state at) at (inr (inr behind.2))
+    ]
 
 wrong_other : (state : HeaderState) (at : ℕ) → wrong_byte state at ≡ faults.ReadFault → ⊥
 wrong_other state at e =
@@ -173,6 +223,29 @@ reading_undecided old middle new at state r none low = (
   ],
 )
 
+-- ---- the name
+
+pub name_refuses : (old new : SourceView) (fault : PageFault) → NameFails old new fault → Refuses old new fault
+name_refuses old new (faults.Magic at) f = known_map old.left (λ input. IsNameFault new at input) (λ input. IsMagicFault input at) (λ input n. n.fault) f
+name_refuses old new faults.ReadFault f = (
+  f.0,
+  f.1,
+  elim f.2 [
+    | inl none ↦ subst DecidesNothing (sym none) nothing_undecided
+    | inr letter ↦ subst DecidesNothing (sym letter) letter_undecided
+  ],
+)
+name_refuses old new (faults.Header at) f = absurd f
+name_refuses old new faults.HeaderTooLong f = absurd f
+name_refuses old new faults.ZeroSize f = absurd f
+name_refuses old new faults.TooManyImages f = absurd f
+name_refuses old new (faults.TooLarge width height) f = absurd f
+name_refuses old new (faults.Truncated at) f = absurd f
+name_refuses old new (faults.Pixel at) f = absurd f
+name_refuses old new (faults.Trailing at) f = absurd f
+name_refuses old new faults.InputTooLong f = absurd f
+name_refuses old new faults.Memory f = absurd f
+
 -- ---- the sizes
 
 pub sizes_fail : (old new : SourceView) (told : Told) (fault : PageFault) → TookSizes old new told → IsSizeFault told.width told.height fault → Refuses old new fault
@@ -198,19 +271,74 @@ sizes_fail old new told fault t f =
     other faults.ReadFault s e = s
     other faults.Memory s e = s
 
-pub header_taken : (old new : SourceView) (told : Told) (size : Size) → TookSizes old new told → IsPageSize told.width told.height × (size.width ≡ told.width) × (size.height ≡ told.height)
-    → TookHeader old new (record { form = told.form; size = size; len = told.len })
-header_taken old new told size t s =
+pub header_taken : (old new : SourceView) (told : Told) (size : Size) (form : Form) → told.form ≡ form → TookSizes old new told
+    → IsPageSize told.width told.height × (size.width ≡ told.width) × (size.height ≡ told.height) → TookHeader old new (record { form = form; size = size; len = told.len })
+header_taken old new told size form named t s =
     let P : ℕ → Type 0 = λ n. IsPageSize n told.height in
     let Q : ℕ → Type 0 = λ n. IsPageSize (min t.width 999999999) n in
     let e = told_size t.width t.height (subst Q t.height_told (subst P t.width_told s.0)) in
     let wide : size.width ≡ t.width = s.1 ∙ t.width_told ∙ e.0 in
     let high : size.height ≡ t.height = s.2 ∙ t.height_told ∙ e.1 in
+    let header = subst (λ (f : Form). IsHeader t.bytes f t.width t.height) named t.is_header in
     record {
       bytes = t.bytes;
       took = t.took;
-      is_header = subst (λ (n : ℕ). IsHeader t.bytes told.form n size.height) (sym wide) (subst (λ (n : ℕ). IsHeader t.bytes told.form t.width n) (sym high) t.is_header);
+      is_header = subst (λ (n : ℕ). IsHeader t.bytes form n size.height) (sym wide) (subst (λ (n : ℕ). IsHeader t.bytes form t.width n) (sym high) header);
       size = subst (λ (n : ℕ). IsPageSize n size.height) (sym s.1) (subst (λ (n : ℕ). IsPageSize told.width n) (sym s.2) s.0);
       len = t.len;
       short = t.short;
     }
+
+pub size_of_header : (width height : ℕ) (fault : PageFault) → IsSizeFault width height fault → IsOfHeader fault
+size_of_header width height faults.ZeroSize s = tt
+size_of_header width height (faults.TooLarge wide high) s = tt
+size_of_header width height (faults.Magic at) s = tt
+size_of_header width height (faults.Header at) s = tt
+size_of_header width height faults.HeaderTooLong s = tt
+size_of_header width height faults.TooManyImages s = absurd s
+size_of_header width height (faults.Truncated at) s = tt
+size_of_header width height (faults.Pixel at) s = absurd s
+size_of_header width height (faults.Trailing at) s = absurd s
+size_of_header width height faults.InputTooLong s = absurd s
+size_of_header width height faults.ReadFault s = tt
+size_of_header width height faults.Memory s = absurd s
+
+-- the input ends before the name
+pub nothing_named : (old new : SourceView) → TookAll old new [] → IfSome old.left (λ input. HasFault input (faults.Magic 0))
+nothing_named old new end = of_end (λ input. HasFault input (faults.Magic 0)) old new [] end (inl (refl, λ b. omega (arith, ap length b.1)))
+
+-- ---- the name, byte by byte
+
+pub not_first : (old new : SourceView) (byte : ℕ) → Took old new (byte ∷ []) → (byte ≡ 80 → ⊥) → NameFails old new (faults.Magic 0)
+not_first old new byte took other =
+    of_all (λ input. IsNameFault new 0 input) old new (byte ∷ []) took
+    (λ rest. record { fault = inl (refl, λ b. other (head_is byte 80 rest b.0 b.1)); ended = λ e. absurd (omega (arith, e)); some = λ e. omega arith })
+
+pub no_second : (old middle new : SourceView) → Took old middle (80 ∷ []) → TookAll middle new [] → NameFails old new (faults.Magic 1)
+no_second old middle new took end =
+    of_end (λ input. IsNameFault new 1 input) old new (80 ∷ []) (took_all old middle new (80 ∷ []) [] took end) (record { fault = letter_fault; ended = λ e. end.end; some = λ e. omega arith })
+
+pub not_second : (old middle new : SourceView) (byte : ℕ) → Took old middle (80 ∷ []) → Took middle new (byte ∷ []) → form_of byte ≡ None → NameFails old new (faults.Magic 1)
+not_second old middle new byte took more none =
+    of_all (λ input. IsNameFault new 1 input) old new (80 ∷ byte ∷ []) (took_more old middle new (80 ∷ []) (byte ∷ []) took more)
+    (λ rest. record { fault = inr (refl, (byte ∷ rest, refl), λ m. no_form rest m); ended = λ e. absurd (omega (arith, e)); some = λ e. omega arith })
+  where
+    named : (digit : ℕ) (form : Form) → form_of digit ≡ Some form → byte ≡ digit → ⊥
+    named digit form is e = absurd (none_some form (sym none ∙ ap form_of e ∙ is))
+
+    no_form : (rest : List ℕ) → HasMagic (80 ∷ byte ∷ rest) → ⊥
+    no_form rest (inl b) = named 49 Plain refl (second_is 80 byte 80 49 rest b.0 b.1)
+    no_form rest (inr b) = named 52 Raw refl (second_is 80 byte 80 52 rest b.0 b.1)
+
+pub wrong_not_cut : (state : HeaderState) (at end : ℕ) → wrong_byte state at ≡ faults.Truncated end → ⊥
+wrong_not_cut state at end e =
+    elim (byte_faults state at) [
+      | inl name ↦ differ at end (sym name.1 ∙ e)
+      | inr behind ↦ other at end (sym behind.1 ∙ e)
+    ]
+  where
+    differ : (m n : ℕ) → faults.Magic m ≡ faults.Truncated n → ⊥
+    differ m n e = cc
+
+    other : (m n : ℕ) → faults.Header m ≡ faults.Truncated n → ⊥
+    other m n e = cc

@@ -1,5 +1,6 @@
 pub mod Taken
 pub mod Copied
+pub mod Seen
 pub mod Splits
 pub mod Machines
 pub mod Fed

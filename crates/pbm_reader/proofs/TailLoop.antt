@@ -28,10 +28,11 @@ skipping_on old middle new start left count more s len took fits = record {
   total = omega (arith, s.total, length-append s.bytes more, len, fits);
 }
 
-pub skipped : (old middle new : SourceView) (start left : ℕ) → IsSkipping old middle start left → TookAll middle new [] → TookRest old new start
+pub skipped : (old middle new : SourceView) (start left : ℕ) → IsSkipping old middle start left → TookAll middle new [] → TookRest old new start (268435456 - left)
 skipped old middle new start left s end = record {
   bytes = s.bytes ++ [];
   took = took_all old middle new s.bytes [] s.took end;
+  end_is = omega (arith, s.total, length-append s.bytes []);
   low = omega (arith, s.total, length-append s.bytes []);
 }
 
@@ -49,11 +50,12 @@ follows_more : (form : Form) (byte : ℕ) (bytes : List ℕ) → MayFollow form 
 follows_more Plain byte bytes f = f
 follows_more Raw byte bytes f = absurd f
 
-pub tail_taken : (old middle new : SourceView) (form : Form) (start byte : ℕ) → Took old middle (byte ∷ []) → MayFollow form (byte ∷ []) → TookRest middle new (start + 1) → TookTail old new form start
-tail_taken old middle new form start byte took follows r = record {
+pub tail_taken : (old middle new : SourceView) (form : Form) (start end byte : ℕ) → Took old middle (byte ∷ []) → MayFollow form (byte ∷ []) → TookRest middle new (start + 1) end → TookTail old new form start end
+tail_taken old middle new form start end byte took follows r = record {
   tail = byte ∷ r.bytes;
   took = took_all old middle new (byte ∷ []) r.bytes took r.took;
   follows = follows_more form byte r.bytes follows;
+  end_is = let is = r.end_is in omega (arith, is);
   low = let low = r.low in omega (arith, low);
 }
 
@@ -94,8 +96,8 @@ pub tail_long : (old new : SourceView) (form : Form) (start byte : ℕ) → Took
 tail_long old new form start byte took limit = (byte ∷ [], took, ([], byte ∷ [], refl, tt, omega (arith, limit), omega arith))
 
 -- nothing stands behind the raster, or it was not read
-pub tail_ends : (old new : SourceView) (form : Form) (start : ℕ) → TookAll old new [] → start ≤ 268435456 → TookTail old new form start
-tail_ends old new form start end low = record { tail = []; took = end; follows = tt; low = omega (arith, low) }
+pub tail_ends : (old new : SourceView) (form : Form) (start : ℕ) → TookAll old new [] → start ≤ 268435456 → TookTail old new form start start
+tail_ends old new form start end low = record { tail = []; took = end; follows = tt; end_is = omega arith; low = omega (arith, low) }
 
 pub tail_unread : (old : SourceView) (form : Form) (start : ℕ) → start ≤ 268435456 → TailFails old old form start faults.ReadFault
 tail_unread old form start low = ([], prepend_nothing old.left, tt, omega (arith, low))

@@ -1,6 +1,6 @@
 -- Bytes that are taken one after the other.
-use Rattle.std.proofs.Common.{◌≡◌, ℕ, ◌+◌, ◌<◌, List, [], ◌∷◌, ◌++◌, length, take, set, Option, Some, None, refl, sym, ap, ◌∙◌, append_assoc, subst}
-use Rattle.std.specs.Prelude.{IfSome, IfNone}
+use Rattle.std.proofs.Common.{◌≡◌, ℕ, ◌+◌, ◌<◌, List, [], ◌∷◌, ◌++◌, length, take, set, Option, Some, None, Result, Ok, Err, refl, sym, ap, ◌∙◌, append_assoc, subst}
+use Rattle.std.specs.Prelude.{IfSome, IfNone, IfOk, IfErr}
 use Rattle.std.proofs.lemmas.List.{append-nil, take_more_set}
 use Rattle.std.specs.Io.KnownBytes.{prepend_known, IsAtEnd}
 use Rattle.layout_outside.specs.Views.{SourceView}
@@ -53,8 +53,22 @@ of_end P old new taken took holds = at_end P old.left new.left taken took.took t
 
 -- ---- one byte or none
 
-pub some_of : (o : Option ℕ) (x : ℕ) (P : ℕ → Type 0) → o ≡ Some x → IfSome o P → P x
-some_of o x P e h = let Q : Option ℕ → Type 0 = λ k. IfSome k P in subst Q e h
+pub some_of : {T : Type 0} (o : Option T) (x : T) (P : T → Type 0) → o ≡ Some x → IfSome o P → P x
+some_of {T} o x P e h = let Q : Option T → Type 0 = λ k. IfSome k P in subst Q e h
 
-pub none_of : (o : Option ℕ) (P : Type 0) → o ≡ None → IfNone o P → P
-none_of o P e h = let Q : Option ℕ → Type 0 = λ k. IfNone k P in subst Q e h
+pub none_of : {T : Type 0} (o : Option T) (P : Type 0) → o ≡ None → IfNone o P → P
+none_of {T} o P e h = let Q : Option T → Type 0 = λ k. IfNone k P in subst Q e h
+
+-- ---- what an answer says
+
+pub ok_map : {T E : Type 0} (r : Result T E) (P Q : T → Type 0) → ((x : T) → P x → Q x) → IfOk r P → IfOk r Q
+ok_map (Ok x) P Q f p = f x p
+ok_map (Err e) P Q f p = p
+
+pub err_map : {T E : Type 0} (r : Result T E) (P Q : E → Type 0) → ((e : E) → P e → Q e) → IfErr r P → IfErr r Q
+err_map (Ok x) P Q f p = p
+err_map (Err e) P Q f p = f e p
+
+pub known_map : (o : Option (List ℕ)) (P Q : List ℕ → Type 0) → ((x : List ℕ) → P x → Q x) → IfSome o P → IfSome o Q
+known_map None P Q f p = tt
+known_map (Some x) P Q f p = f x p

@@ -200,11 +200,11 @@ tail_refuses given old middle later new header end empty after faults.Memory t r
 -- ---- a page
 
 pub page_read : {Sink : Type 0} (begun : Sink → ℕ → ℕ → Sink → Type 0) (given : Sink → List ℕ → Sink → Type 0)
-    (old middle later new : SourceView) (header : Header) (end : ℕ) (before empty after : Sink)
+    (old middle later new : SourceView) (header : Header) (end last : ℕ) (before empty after : Sink)
     → TookHeader old middle header → begun before header.size.width header.size.height empty
     → TookRaster given middle later header.form header.size.width header.size.height header.len end empty after
-    → TookTail later new header.form end → ReadsPage begun given old new before after header.size
-page_read begun given old middle later new header end before empty after t b r q =
+    → TookTail later new header.form end last → ReadsPage begun given old new before after header.size
+page_read begun given old middle later new header end last before empty after t b r q =
     let B : ℕ → Type 0 = λ n. begun before n header.size.height empty in
     let C : ℕ → Type 0 = λ n. begun before r.page.width n empty in
     let R : ℕ → Type 0 = λ n. AfterRows given r.page n empty after in

@@ -1,7 +1,7 @@
 -- What one more byte makes of a header that is read so far, and what the private calls of the header's reader took.
-use Rattle.std.specs.Prelude.{ℕ, ◌+◌, ◌-◌, ◌*◌, ◌==◌, min, Option, Some, None, option_map, if◌then◌else◌, ◌≡◌, ◌≤◌, List, length}
+use Rattle.std.specs.Prelude.{ℕ, ◌+◌, ◌-◌, ◌*◌, ◌==◌, min, Option, Some, None, option_map, if◌then◌else◌, ◌≡◌, ◌≤◌, ◌<◌, ◌⊎◌, List, [], length, IfSome, codes, ⊤}
 use Rattle.layout_outside.specs.Views.{SourceView}
-use Rattle.layout_outside.specs.Taken.{Took}
+use Rattle.layout_outside.specs.Taken.{HasEnded, Took}
 use Rattle.pbm_reader.specs.declared.limits.TheConstants.{MAX_HEADER, MAX_NUMBER}
 use Rattle.pbm_reader.specs.declared.header.Header.{Header}
 use Rattle.pbm_reader.specs.declared.header.Told.{Told}
@@ -13,6 +13,7 @@ use Rattle.pbm_reader.specs.declared.state.HeaderState.TheVariants.{Magic, Kind,
 use Rattle.pbm_reader.specs.declared.state.HeaderState.TheVariants.{Width, HeightGap, HeightComment, Height, Whole}
 use Rattle.pbm_reader.specs.declared.fault.PageFault.{PageFault}
 use Rattle.pbm_reader.specs.declared.fault.PageFault.TheVariants as faults
+use Rattle.pbm_reader.specs.Fault.{IsMagicFault}
 use Rattle.pbm_reader.specs.Spelling.{is_white, is_line_end, is_digit, IsHeader}
 
 -- the form that this byte names behind a `P`
@@ -61,6 +62,27 @@ abbrev pub missing_byte : HeaderState → ℕ → PageFault
 missing_byte Magic at = faults.Magic at
 missing_byte Kind at = faults.Magic at
 missing_byte state at = faults.Truncated at
+
+-- the name has a fault here; where it stands at the end of the input, this was answered
+pub record IsNameFault (new : SourceView) (at : ℕ) (input : List ℕ) : Type 0 where
+  pub fault : IsMagicFault input at
+  pub ended : at ≡ length input → HasEnded new
+  pub some : at ≡ 0 → 0 < length input
+
+-- why the name of a form was not read
+abbrev pub NameFails : SourceView → SourceView → PageFault → Type 0
+NameFails old new (faults.Magic at) = IfSome old.left (λ input. IsNameFault new at input)
+NameFails old new faults.ReadFault = (taken : List ℕ) × Took old new taken × ((taken ≡ []) ⊎ (taken ≡ codes "P"))
+NameFails old new fault = ⊥
+
+-- the fault is one that stands in a header, or a read failed there
+abbrev pub IsOfHeader : PageFault → Type 0
+IsOfHeader (faults.Pixel at) = ⊥
+IsOfHeader (faults.Trailing at) = ⊥
+IsOfHeader faults.InputTooLong = ⊥
+IsOfHeader faults.TooManyImages = ⊥
+IsOfHeader faults.Memory = ⊥
+IsOfHeader fault = ⊤
 
 -- a header was taken, of at most 65,536 bytes; a size above 999,999,999 is told as 999,999,999
 pub record TookSizes (old new : SourceView) (told : Told) : Type 0 where

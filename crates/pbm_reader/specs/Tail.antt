@@ -8,10 +8,11 @@ use Rattle.pbm_reader.specs.Spelling.{MayFollow}
 use Rattle.layout_outside.specs.Taken.{Took, TookAll}
 use Rattle.layout_outside.specs.Views.{SourceView}
 
--- all that was left was taken, from this offset on, and it is within the limit
-pub record TookRest (old new : SourceView) (start : ℕ) : Type 0 where
+-- all that was left was taken, from one offset to another, and it is within the limit
+pub record TookRest (old new : SourceView) (start end : ℕ) : Type 0 where
   pub bytes : List ℕ
   pub took : TookAll old new bytes
+  pub end_is : end ≡ start + length bytes
   pub low : start + length bytes ≤ MAX_INPUT
 
 -- why what was left was not read to its end, from this offset on
@@ -26,11 +27,12 @@ GoesPast form start tail =
     (front : List ℕ) × (behind : List ℕ) × (tail ≡ front ++ behind) × MayFollow form front × (start + length front ≡ MAX_INPUT)
     × (0 < length behind)
 
--- what may follow a raster was taken, and it was all that was left
-pub record TookTail (old new : SourceView) (form : Form) (start : ℕ) : Type 0 where
+-- what may follow a raster was taken, from one offset to another, and it was all that was left
+pub record TookTail (old new : SourceView) (form : Form) (start end : ℕ) : Type 0 where
   pub tail : List ℕ
   pub took : TookAll old new tail
   pub follows : MayFollow form tail
+  pub end_is : end ≡ start + length tail
   pub low : start + length tail ≤ MAX_INPUT
 
 -- why what stands behind a raster, from this offset on, was not read to its end

@@ -1,8 +1,9 @@
 //! The bytes of the input one after the other, in whatever pieces the source hands them out.
-ghost use Rattle.std.specs.Prelude.{◌≡◌, ◌<◌, ◌≤◌, ◌-◌, ℕ, List, [], ◌∷◌, ◌++◌, length};
+ghost use Rattle.std.specs.Prelude.{◌≡◌, ◌<◌, ◌≤◌, ◌⊎◌, ◌-◌, ◌+◌, ℕ, false, List, [], ◌∷◌, ◌++◌, length, Some, None};
 ghost use Rattle.std.specs.Prelude.{take, drop, min, IfSome, IfNone, IfOk, OnOk, OnErr, IsTrue, ◌↔◌, vec_len};
 ghost use Rattle.layout_outside.specs.Taken.{HasEnded, HasSourceCause, Took, TookAll, TookPart};
-ghost use Rattle.pbm_reader.specs.Feed.{FeedView, with_unread};
+ghost use Rattle.layout_outside.specs.Views.{IsRead};
+ghost use Rattle.pbm_reader.specs.Feed.{FeedView, PieceView, fed, is_limited, seen, unseen, whole, with_unread};
 
 use crate::limits::MAX_PIECE;
 use layout_limits::OutOfMemory;
@@ -10,45 +11,93 @@ use layout_outside::{Failed, Source};
 use std::alloc::Global;
 use std::marker::Model;
 
+/// Reads bytes to the front of a buffer, no more than so many.
+fn read_within<S: Source>(src: &mut S, bytes: &mut [u8], room: u64) -> Result<usize, Failed>
+    requires some { 0 < length bytes.old }
+    requires room { 0 < room }
+    ensures read { IsRead (S.view src.old) (S.view src.new) bytes.new result }
+    ensures fits { IfOk result (λ count. count ≤ room) }
+{
+    let len = room.min(bytes.len() as u64) as usize;
+    src.read(&mut bytes[..len])
+}
+
 /// The unread bytes of a piece of the input. It can outlive the call that read it.
 #[derive(Drop)]
 pub struct Piece {
     bytes: Vec<u8>,
     at: usize,
     end: usize,
+    // How many bytes may still be read, where that is limited.
+    room: Option<u64>,
 }
 
 impl Model for Piece {
-    ghost Value = { List ℕ };
+    ghost Value = { PieceView };
 
-    ghost view = { λ p. take (p.end - p.at) (drop p.at p.bytes.items) };
+    ghost view = { λ p. record { unread = take (p.end - p.at) (drop p.at p.bytes.items); room = p.room; space = vec_len p.bytes } };
 
-    ghost invariant = { λ p. (p.at ≤ p.end) × (p.end ≤ vec_len p.bytes) × (0 < vec_len p.bytes) };
+    // a piece without bytes of its own reads nothing
+    ghost invariant = { λ p. (p.at ≤ p.end) × (p.end ≤ vec_len p.bytes) × ((0 < vec_len p.bytes) ⊎ (p.room ≡ Some 0)) };
 }
 
 impl Piece {
-    /// A piece with nothing unread.
+    /// A piece with nothing unread, and with no limit to what may be read.
     pub fn new(alloc: Global) -> Result<Piece, OutOfMemory>
-        ensures { IfOk result (λ piece. piece ≡ []) }
+        ensures unread { IfOk result (λ piece. piece.unread ≡ []) }
+        ensures room { IfOk result (λ piece. piece.room ≡ None) }
+        ensures space { IfOk result (λ piece. 0 < piece.space) }
     {
         let bytes = vec![in alloc; 0; MAX_PIECE]?;
         Ok(Piece {
             bytes,
             at: 0,
             end: 0,
+            room: None,
         })
     }
 
+    /// A piece with nothing unread, which reads nothing and takes no memory.
+    pub fn closed(alloc: Global) -> Piece
+        ensures { result.unread ≡ [] }
+    {
+        Piece {
+            bytes: Vec::new(alloc),
+            at: 0,
+            end: 0,
+            room: Some(0),
+        }
+    }
+
+    /// Limits what may be read to so many bytes.
+    pub fn limit(&mut self, room: u64)
+        requires { 0 < self.old.space }
+        ensures room { self.new.room ≡ Some room }
+        ensures unread { self.new.unread ≡ self.old.unread }
+        ensures space { self.new.space ≡ self.old.space }
+    {
+        self.room = Some(room);
+    }
+
+    /// How many bytes are unread.
+    pub fn len(&self) -> usize
+        ensures { result ≡ length self.now.unread }
+    {
+        self.end - self.at
+    }
+
     fn is_empty(&self) -> bool
-        ensures { IsTrue result ↔ (self.now ≡ []) }
+        ensures { IsTrue result ↔ (self.now.unread ≡ []) }
     {
         self.at == self.end
     }
 
     /// The next unread byte.
     fn pop(&mut self) -> Option<u8>
-        ensures some { IfSome result (λ byte. self.old ≡ byte ∷ self.new) }
-        ensures none { IfNone result ((self.old ≡ []) × (self.new ≡ [])) }
+        ensures some { IfSome result (λ byte. self.old.unread ≡ byte ∷ self.new.unread) }
+        ensures none { IfNone result ((self.old.unread ≡ []) × (self.new.unread ≡ [])) }
+        ensures room { self.new.room ≡ self.old.room }
+        ensures space { self.new.space ≡ self.old.space }
     {
         if self.at == self.end {
             return None;
@@ -60,8 +109,10 @@ impl Piece {
 
     /// Moves unread bytes to the front of a buffer, as many as there are and fit, and says how many.
     fn copy_to(&mut self, buf: &mut [u8]) -> usize
-        ensures count { result ≡ min (length self.old) (length buf.old) }
-        ensures bytes { self.old ≡ take result buf.new ++ self.new }
+        ensures count { result ≡ min (length self.old.unread) (length buf.old) }
+        ensures bytes { self.old.unread ≡ take result buf.new ++ self.new.unread }
+        ensures room { self.new.room ≡ self.old.room }
+        ensures space { self.new.space ≡ self.old.space }
     {
         let count = (self.end - self.at).min(buf.len());
         let end = self.at + count;
@@ -72,25 +123,63 @@ impl Piece {
 
     /// Drops the unread bytes, and says how many there were.
     fn clear(&mut self) -> usize
-        ensures count { result ≡ length self.old }
-        ensures empty { self.new ≡ [] }
+        ensures count { result ≡ length self.old.unread }
+        ensures empty { self.new.unread ≡ [] }
+        ensures room { self.new.room ≡ self.old.room }
+        ensures space { self.new.space ≡ self.old.space }
     {
         let count = self.end - self.at;
         self.at = self.end;
         count
     }
 
-    /// Reads the next piece, in the place of the last.
+    /// Reads the next piece, in the place of the last. Where nothing may be read it does nothing.
     fn refill<S: Source>(&mut self, src: &mut S) -> Result<(), Failed>
-        ensures bytes { OnOk result (Took (S.view src.old) (S.view src.new) self.new) }
-        ensures end { OnOk result (self.new ≡ [] → HasEnded (S.view src.new)) }
-        ensures err { OnErr result ((self.new ≡ []) × ((S.view src.new).left ≡ (S.view src.old).left)) }
+        ensures bytes { OnOk result (Took (seen self.old.room (S.view src.old)) (seen self.new.room (S.view src.new)) self.new.unread) }
+        ensures end { OnOk result (self.new.unread ≡ [] → HasEnded (seen self.new.room (S.view src.new))) }
+        ensures empty { OnErr result (self.new.unread ≡ []) }
+        ensures err { OnErr result (Took (seen self.old.room (S.view src.old)) (seen self.new.room (S.view src.new)) []) }
+        ensures none { OnOk result (self.new.unread ≡ [] → self.new.room ≡ self.old.room) }
+        ensures fits { OnOk result ((room : ℕ) → self.old.room ≡ Some room → length self.new.unread ≤ room) }
+        ensures unseen { unseen self.new.room (S.view src.new) ≡ unseen self.old.room (S.view src.old) }
+        ensures limited { is_limited self.new.room ≡ is_limited self.old.room }
+        ensures space { self.new.space ≡ self.old.space }
         ensures cause { HasSourceCause (S.view src.old) (S.view src.new) result }
     {
         self.at = 0;
         self.end = 0;
-        self.end = src.read(&mut self.bytes)?;
+        match self.room {
+            None => self.end = src.read(&mut self.bytes)?,
+            Some(0) => {}
+            Some(room) => {
+                self.end = read_within(src, &mut self.bytes, room)?;
+                self.room = Some(room - self.end as u64);
+            }
+        }
         Ok(())
+    }
+}
+
+impl Piece {
+    /// The next byte, or none at the end of what may be read. Where a byte is unread nothing is read.
+    pub fn next_byte<S: Source>(&mut self, src: &mut S) -> Result<Option<u8>, Failed>
+        ensures byte { IfOk result (λ next. IfSome next (λ byte. Took (whole self.old (S.view src.old)) (whole self.new (S.view src.new)) (byte ∷ []))) }
+        ensures end { IfOk result (λ next. IfNone next (TookAll (whole self.old (S.view src.old)) (whole self.new (S.view src.new)) [])) }
+        ensures none { IfOk result (λ next. IfNone next (self.new.room ≡ self.old.room)) }
+        ensures err { OnErr result (Took (whole self.old (S.view src.old)) (whole self.new (S.view src.new)) []) }
+        ensures drained { OnErr result (self.new.unread ≡ []) }
+        ensures held { 0 < length self.old.unread → (src.new ≡ src.old) × IfOk result (λ next. IfSome next (λ byte. self.old.unread ≡ byte ∷ self.new.unread)) }
+        ensures fits { IfOk result (λ next. IfSome next (λ _. (room : ℕ) → self.old.room ≡ Some room → length self.new.unread + 1 ≤ length self.old.unread + room)) }
+        ensures unseen { unseen self.new.room (S.view src.new) ≡ unseen self.old.room (S.view src.old) }
+        ensures limited { is_limited self.new.room ≡ is_limited self.old.room }
+        ensures space { self.new.space ≡ self.old.space }
+        ensures cause { HasSourceCause (S.view src.old) (S.view src.new) result }
+    {
+        if let Some(byte) = self.pop() {
+            return Ok(Some(byte));
+        }
+        self.refill(src)?;
+        Ok(self.pop())
     }
 }
 
@@ -104,28 +193,30 @@ pub struct Feed<'s, S: Source> {
 impl<'s, S: Source> Model for Feed<'s, S> {
     ghost Value = { FeedView };
 
-    ghost view = { λ f. record {
-      source = with_unread f.piece (S.view f.src.now);
-      unread = f.piece;
-      borrow = f.src.ghost_name;
-    } };
+    ghost view = { λ f. fed f.src.ghost_name (S.view f.src.now) f.piece };
 }
 
 impl<'s, S: Source> Feed<'s, S> {
     /// A feed of a source, of which this piece is unread.
     pub fn new(src: &'s mut S, piece: Piece) -> Feed<'s, S>
-        ensures source { result.source ≡ with_unread piece (S.view src.old) }
-        ensures unread { result.unread ≡ piece }
-        ensures borrow { result.borrow ≡ src.entry.ghost_name }
+        ensures { result ≡ fed src.entry.ghost_name (S.view src.old) piece }
     {
         Feed { src, piece }
     }
 
     /// Gives the source back, and drops what is unread.
     pub fn into_source(self) -> &'s mut S
-        ensures source { self.entry.source ≡ with_unread self.entry.unread (S.view result.now) }
-        ensures borrow { result.ghost_name ≡ self.entry.borrow }
+        ensures source { self.entry.borrow.is_limited ≡ false → self.entry.source ≡ with_unread self.entry.unread (S.view result.now) }
+        ensures borrow { result.ghost_name ≡ self.entry.borrow.name }
     {
+        self.src
+    }
+
+    /// Gives the source back, and the piece with what is unread to the place of another.
+    pub fn close(self, piece: &mut Piece) -> &'s mut S
+        ensures feed { self.entry ≡ fed result.ghost_name (S.view result.now) piece.new }
+    {
+        *piece = self.piece;
         self.src
     }
 
@@ -138,11 +229,7 @@ impl<'s, S: Source> Feed<'s, S> {
         ensures same { self.new.borrow ≡ self.old.borrow }
         ensures cause { HasSourceCause self.old.source self.new.source result }
     {
-        if let Some(byte) = self.piece.pop() {
-            return Ok(Some(byte));
-        }
-        self.piece.refill(self.src)?;
-        Ok(self.piece.pop())
+        self.piece.next_byte(self.src)
     }
 
     /// Moves the next bytes to the front of a buffer, and says how many. None is the end of the input.

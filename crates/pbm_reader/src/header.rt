@@ -1,13 +1,16 @@
 //! The header of a page.
-ghost use Rattle.std.specs.Prelude.{◌≡◌, ◌≤◌, ◌<◌, ◌^◌, List, [], ℕ, IfOk, IfErr};
+ghost use Rattle.std.specs.Prelude.{◌≡◌, ◌≤◌, ◌<◌, ◌^◌, List, [], ℕ, IfOk, IfErr, IfSome, IfNone};
 ghost use Rattle.pbm_reader.specs.Page.{IsPageSize};
 ghost use Rattle.pbm_reader.specs.Reading.{HasReadCause, Refuses};
-ghost use Rattle.pbm_reader.specs.Header.{wrong_byte, missing_byte, TookHeader, TookSizes};
+ghost use Rattle.layout_outside.specs.Views.{SourceView};
+ghost use Rattle.layout_outside.specs.Taken.{HasEnded, Took, TookAll};
+ghost use Rattle.pbm_reader.specs.Spelling.{magic};
+ghost use Rattle.pbm_reader.specs.Header.{wrong_byte, missing_byte, IsOfHeader, NameFails, TookHeader, TookSizes};
 ghost use Rattle.pbm_reader.specs.Fault.{IsSizeFault};
 
 use crate::fault::{PageFault, Size};
 use crate::feed::Feed;
-use crate::form::Form;
+use crate::form::{Form, form_of};
 use crate::limits::MAX_HEADER;
 use crate::state::{HeaderState, next_state};
 use layout_limits::{MAX_PIXELS, MAX_SIDE};
@@ -54,23 +57,52 @@ fn missing_byte(state: HeaderState, at: u64) -> PageFault
     }
 }
 
-/// Reads a header to its last byte, whatever sizes it says.
-fn read_told<S: Source>(feed: &mut Feed<'_, S>) -> Result<Told, PageFault>
-    ensures told { IfOk result (TookSizes feed.old.source feed.new.source) }
-    ensures fault { IfErr result (Refuses feed.old.source feed.new.source) }
+/// Reads the name of a form, or none where the input ends before it.
+pub(crate) fn read_name<S: Source>(feed: &mut Feed<'_, S>) -> Result<Option<Form>, PageFault>
+    ensures name { IfOk result (λ name. IfSome name (λ form. Took feed.old.source feed.new.source (magic form))) }
+    ensures end { IfOk result (λ name. IfNone name (TookAll feed.old.source feed.new.source [])) }
+    ensures fault { IfErr result (NameFails feed.old.source feed.new.source) }
     ensures drained { result ≡ Err PageFault.ReadFault → feed.new.unread ≡ [] }
     ensures same { feed.new.borrow ≡ feed.old.borrow }
     ensures cause { HasReadCause feed.old.source feed.new.source result }
 {
-    let mut state = HeaderState::Magic;
-    for at in 0..MAX_HEADER {
+    let Some(letter) = feed.next_byte()? else {
+        return Ok(None);
+    };
+    if letter != b'P' {
+        return Err(PageFault::Magic { at: 0 });
+    }
+    let Some(digit) = feed.next_byte()? else {
+        return Err(PageFault::Magic { at: 1 });
+    };
+    match form_of(digit) {
+        Some(form) => Ok(Some(form)),
+        None => Err(PageFault::Magic { at: 1 }),
+    }
+}
+
+/// Reads a header to its last byte, behind the name of its form, whatever sizes it says.
+fn read_told<S: Source>(feed: &mut Feed<'_, S>, form: Form) -> Result<Told, PageFault>
+    ensures told { IfOk result (λ told. (first : SourceView) → Took first feed.old.source (magic form)
+        → TookSizes first feed.new.source told) }
+    ensures fault { IfErr result (λ fault. (first : SourceView) → Took first feed.old.source (magic form)
+        → Refuses first feed.new.source fault) }
+    ensures of_header { IfErr result IsOfHeader }
+    ensures ended { (at : ℕ) → result ≡ Err (PageFault.Truncated at) → HasEnded feed.new.source }
+    ensures form { IfOk result (λ told. told.form ≡ form) }
+    ensures drained { result ≡ Err PageFault.ReadFault → feed.new.unread ≡ [] }
+    ensures same { feed.new.borrow ≡ feed.old.borrow }
+    ensures cause { HasReadCause feed.old.source feed.new.source result }
+{
+    let mut state = HeaderState::Named(form);
+    for at in 2..MAX_HEADER {
         let Some(byte) = feed.next_byte()? else {
             return Err(missing_byte(state, at));
         };
         let Some(next) = next_state(state, byte) else {
             return Err(wrong_byte(state, at));
         };
-        if let HeaderState::Whole(form, width, height) = next {
+        if let HeaderState::Whole(_, width, height) = next {
             return Ok(Told {
                 form,
                 width,
@@ -103,6 +135,28 @@ fn page_size(width: u32, height: u32) -> Result<Size, PageFault>
     })
 }
 
+/// Reads a header, behind the name of its form, with sizes that a page can have.
+pub(crate) fn read_sizes<S: Source>(feed: &mut Feed<'_, S>, form: Form) -> Result<Header, PageFault>
+    ensures header { IfOk result (λ header. (first : SourceView) → Took first feed.old.source (magic form)
+        → TookHeader first feed.new.source header) }
+    ensures fault { IfErr result (λ fault. (first : SourceView) → Took first feed.old.source (magic form)
+        → Refuses first feed.new.source fault) }
+    ensures of_header { IfErr result IsOfHeader }
+    ensures ended { (at : ℕ) → result ≡ Err (PageFault.Truncated at) → HasEnded feed.new.source }
+    ensures form { IfOk result (λ header. header.form ≡ form) }
+    ensures drained { result ≡ Err PageFault.ReadFault → feed.new.unread ≡ [] }
+    ensures same { feed.new.borrow ≡ feed.old.borrow }
+    ensures cause { HasReadCause feed.old.source feed.new.source result }
+{
+    let told = read_told(feed, form)?;
+    let size = page_size(told.width, told.height)?;
+    Ok(Header {
+        form,
+        size,
+        len: told.len,
+    })
+}
+
 /// Reads a header, with sizes that a page can have.
 pub(crate) fn read_header<S: Source>(feed: &mut Feed<'_, S>) -> Result<Header, PageFault>
     ensures header { IfOk result (TookHeader feed.old.source feed.new.source) }
@@ -111,11 +165,8 @@ pub(crate) fn read_header<S: Source>(feed: &mut Feed<'_, S>) -> Result<Header, P
     ensures same { feed.new.borrow ≡ feed.old.borrow }
     ensures cause { HasReadCause feed.old.source feed.new.source result }
 {
-    let told = read_told(feed)?;
-    let size = page_size(told.width, told.height)?;
-    Ok(Header {
-        form: told.form,
-        size,
-        len: told.len,
-    })
+    let Some(form) = read_name(feed)? else {
+        return Err(PageFault::Magic { at: 0 });
+    };
+    read_sizes(feed, form)
 }

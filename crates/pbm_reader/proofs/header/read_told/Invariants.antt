@@ -1,10 +1,13 @@
 use Rattle.std.proofs.Common.{◌≡◌, ◌≤◌}
-use Rattle.pbm_reader.proofs.HeaderLoop.{IsReading}
+use Rattle.layout_outside.specs.Views.{SourceView}
+use Rattle.layout_outside.specs.Taken.{Took}
+use Rattle.pbm_reader.specs.Spelling.{magic}
+use Rattle.pbm_reader.proofs.HeaderLoop.{IsNamedReading}
 use Rattle.pbm_reader.proofs.header.read_told.Given as goal
 
 abbrev pub invariant-loop-at : goal.invariant-loop-at
 invariant-loop-at g l = record {
-  reading : IsReading l.initial.feed.source l.feed.source l.at l.state;
+  reading : (first : SourceView) → Took first l.initial.feed.source (magic l.form) → IsNamedReading first l.feed.source l.form l.at l.state;
   same : l.feed.borrow ≡ l.initial.feed.borrow;
   later : l.initial.feed.source.faults ≤ l.feed.source.faults;
 }

@@ -48,5 +48,5 @@ returns-clause-page g c =
     let middle = c.read_header.new.feed.source in
     let later = c.read_raster.new.feed.source in
     let new = c.read_tail.new.feed.source in
-    page_read g.R.RowSink.begun g.R.RowSink.given old middle later new c.in_ok-header.header c.in_ok-end.end c.args.rows.now c.begin.new.self c.read_raster.new.rows c.in_ok-header.ensures.header
+    page_read g.R.RowSink.begun g.R.RowSink.given old middle later new c.in_ok-header.header c.in_ok-end.end c.in_ok-read_tail.field-0 c.args.rows.now c.begin.new.self c.read_raster.new.rows c.in_ok-header.ensures.header
     c.in_ok-begin.ensures.ok c.in_ok-end.ensures.ok c.in_ok-read_tail.ensures.ok

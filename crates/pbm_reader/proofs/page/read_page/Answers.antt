@@ -1,6 +1,6 @@
 use Rattle.std.proofs.Common.{◌≡◌, [], ◌∙◌, rules}
 use Rattle.pbm_reader.specs.Feed.{with_unread}
-use Rattle.pbm_reader.proofs.Fed.{left_first, calm_fed}
+use Rattle.pbm_reader.proofs.Fed.{left_first, calm_fed, refuses_from}
 use Rattle.pbm_reader.proofs.TopRows.{top_from}
 use Rattle.pbm_reader.proofs.WholePage.{only_memory, only_fault}
 use Rattle.pbm_reader.proofs.page.read_page.Goals as goal
@@ -34,3 +34,12 @@ returns-clause-top g c =
     let begins : first ≡ with_unread [] old = search rules in
     top_from g.R.RowSink.begun g.R.RowSink.given g.R.RowSink.unchanged old _ first last c.read_from-result.new.feed.unread
     c.args.rows.now c.read_from-result.new.rows c.read_from-result.result (left_first old first begins) (search rules) c.read_from-result.ensures.top
+
+pub returns-clause-fault : goal.returns-clause-fault
+returns-clause-fault g c =
+    let old = g.S.Source.view c.args.src.now in
+    let first = c.new-feed.result.source in
+    let last = c.read_from-result.new.feed.source in
+    let begins : first ≡ with_unread [] old = search rules in
+    refuses_from old (g.S.Source.view _) first last c.read_from-result.new.feed.unread c.read_from-result.result (left_first old first begins) (search rules) c.read_from-result.ensures.drained
+    c.read_from-result.ensures.fault

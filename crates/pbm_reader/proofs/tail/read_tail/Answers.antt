@@ -1,19 +1,10 @@
-use Rattle.std.proofs.Common.{◌+◌, ◌<◌, [], ◌∷◌, Result, Ok, Err, arith}
-use Rattle.std.specs.Prelude.{OnOk, IfErr}
+use Rattle.std.proofs.Common.{◌+◌, ◌<◌, [], ◌∷◌, arith}
 use Rattle.pbm_reader.specs.Spelling.{MayFollow}
 use Rattle.layout_outside.specs.Taken.{Took}
 use Rattle.pbm_reader.specs.Tail.{RestFails, TailFails, TookRest, TookTail}
-use Rattle.pbm_reader.proofs.Taken.{some_of}
+use Rattle.pbm_reader.proofs.Taken.{some_of, ok_map, err_map}
 use Rattle.pbm_reader.proofs.TailLoop.{tail_taken, tail_fails}
 use Rattle.pbm_reader.proofs.tail.read_tail.Goals as goal
-
-ok_map : {T E : Type 0} (r : Result T E) (P Q : Type 0) → (P → Q) → OnOk r P → OnOk r Q
-ok_map (Ok x) P Q f p = f p
-ok_map (Err e) P Q f p = p
-
-err_map : {T E : Type 0} (r : Result T E) (P Q : E → Type 0) → ((e : E) → P e → Q e) → IfErr r P → IfErr r Q
-err_map (Ok x) P Q f p = p
-err_map (Err e) P Q f p = f e p
 
 pub returns-clause-ok : goal.returns-clause-ok
 returns-clause-ok g c =
@@ -23,7 +14,7 @@ returns-clause-ok g c =
     let took = some_of c.in_ok-byte.field-0 c.in-Some.byte (λ byte. Took old middle (byte ∷ [])) c.in-Some.is c.in_ok-byte.ensures.byte in
     let follows : MayFollow c.args.form (c.in-Some.byte ∷ []) = c.may_follow.ensures.0 c.if-not-may_follow.false in
     ok_map c.skip_rest.result (TookRest middle new (c.args.start + 1)) (TookTail old new c.args.form c.args.start)
-    (λ r. tail_taken old middle new c.args.form c.args.start c.in-Some.byte took follows r) c.skip_rest.ensures.ok
+    (λ end r. tail_taken old middle new c.args.form c.args.start end c.in-Some.byte took follows r) c.skip_rest.ensures.ok
 
 pub returns-clause-fault : goal.returns-clause-fault
 returns-clause-fault g c =
