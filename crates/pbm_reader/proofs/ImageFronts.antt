@@ -140,7 +140,7 @@ letter_front rest short i =
       length-append (magic Raw) h.gap,
     )
 
-name_fault : HasFaultWithin (80 ∷ 52 ∷ []) (faults.Truncated 2)
+pub name_fault : HasFaultWithin (80 ∷ 52 ∷ []) (faults.Truncated 2)
 name_fault = record {
   end = refl;
   short = omega arith;

@@ -28,7 +28,7 @@ record JudgedFault (input : List ℕ) : Type 0 where
   pub has_fault : HasImagesFault input fault
   pub ending : length input ≡ 268435456 → Ending input fault
 
-equal : (m n : ℕ) → (m ≡ n) ⊎ (m ≡ n → ⊥)
+pub equal : (m n : ℕ) → (m ≡ n) ⊎ (m ≡ n → ⊥)
 equal m n =
     elim (cases_lt m n) [
       | inl lt ↦ inr (λ e. omega (arith, lt, e))
@@ -235,15 +235,28 @@ cut_at_end input at h = cases h.is_fault
         differ : (n : ℕ) → faults.Truncated n ≡ faults.TooManyImages → ⊥
         differ n e = cc
 
-cut_decides_nothing : (input : List ℕ) (at : ℕ) → HasImagesFault input (faults.Truncated at) → (fault : PageFault) → Settles input fault → ⊥
+pub cut_decides_nothing : (input : List ℕ) (at : ℕ) → HasImagesFault input (faults.Truncated at) → (fault : PageFault) → Settles input fault → ⊥
 cut_decides_nothing input at h fault decides =
     let now = subst (λ (l : List ℕ). HasImagesFault l fault) (append-nil input) (decides []) in
     let e : fault ≡ faults.Truncated at = one_images_fault input fault (faults.Truncated at) now h in
     let later = subst (λ (f : PageFault). HasImagesFault (input ++ 0 ∷ []) f) e (decides (0 ∷ [])) in
     omega (arith, cut_at_end input at h, cut_at_end (input ++ 0 ∷ []) at later, length-append input (0 ∷ []))
 
-pages_decide_nothing : (input : List ℕ) → ArePages input → (fault : PageFault) → Settles input fault → ⊥
+pub pages_decide_nothing : (input : List ℕ) → ArePages input → (fault : PageFault) → Settles input fault → ⊥
 pages_decide_nothing input p fault decides = pages_have_no_fault input p.0 fault p.1 (subst (λ (l : List ℕ). HasImagesFault l fault) (append-nil input) (decides []))
+
+pub long_pages : (first behind : List ℕ) → length first ≡ 268435456 → 0 < length behind → ((fault : PageFault) → Settles first fault → ⊥) → HasPagesFault (first ++ behind) faults.InputTooLong
+long_pages first behind len more nothing = inl (refl, record { front = first; behind = behind; whole = refl; len = len; more = more; undecided = nothing })
+
+-- what the first bytes settle is no fault of the length
+pub settled_pages : (first behind : List ℕ) (fault : PageFault) → length first ≡ 268435456 → Settles first fault → HasPagesFault (first ++ behind) fault
+settled_pages first behind fault len settles =
+    inr (
+      settles behind,
+      λ l.
+          let same = same_front l.front l.behind first behind (sym l.whole) (l.len ∙ sym len) in
+          l.undecided fault (λ rest. subst (λ (k : List ℕ). HasImagesFault (k ++ rest) fault) (sym same.0) (settles rest)),
+    )
 
 pub pages_judged : (input : List ℕ) → ArePages input ⊎ ((fault : PageFault) × HasPagesFault input fault)
 pages_judged input =
@@ -258,32 +271,18 @@ pages_judged input =
           (by_front (take 268435456 input) (drop 268435456 input) (length-take-le 268435456 input (omega (arith, longer))) (omega (arith, length-drop 268435456 input, longer))))
     ]
   where
-    long : (first behind : List ℕ) → length first ≡ 268435456 → 0 < length behind → ((fault : PageFault) → Settles first fault → ⊥) → (fault : PageFault) × HasPagesFault (first ++ behind) fault
-    long first behind len more nothing = (faults.InputTooLong, inl (refl, record { front = first; behind = behind; whole = refl; len = len; more = more; undecided = nothing }))
-
-    -- what the first bytes settle is no fault of the length
-    within : (first behind : List ℕ) (fault : PageFault) → length first ≡ 268435456 → Settles first fault → (fault : PageFault) × HasPagesFault (first ++ behind) fault
-    within first behind fault len settles = (
-      fault,
-      inr (
-        settles behind,
-        λ l.
-            let same = same_front l.front l.behind first behind (sym l.whole) (l.len ∙ sym len) in
-            l.undecided fault (λ rest. subst (λ (k : List ℕ). HasImagesFault (k ++ rest) fault) (sym same.0) (settles rest)),
-      ),
-    )
-
     by_front : (first behind : List ℕ) → length first ≡ 268435456 → 0 < length behind → (fault : PageFault) × HasPagesFault (first ++ behind) fault
     by_front first behind len more =
         elim (judged_images first (omega (arith, len))) [
-          | inl p ↦ long first behind len more (pages_decide_nothing first p)
+          | inl p ↦ (faults.InputTooLong, long_pages first behind len more (pages_decide_nothing first p))
           | inr f ↦
               elim (f.ending len) [
-                | inl cut ↦ long first behind len more (cut_decides_nothing first cut.0 (subst (λ (k : PageFault). HasImagesFault first k) cut.1 f.has_fault))
+                | inl cut ↦
+                    (faults.InputTooLong, long_pages first behind len more (cut_decides_nothing first cut.0 (subst (λ (k : PageFault). HasImagesFault first k) cut.1 f.has_fault)))
                 | inr other ↦
                     elim other [
-                      | inl nothing ↦ long first behind len more nothing
-                      | inr settles ↦ within first behind f.fault len settles
+                      | inl nothing ↦ (faults.InputTooLong, long_pages first behind len more nothing)
+                      | inr settles ↦ (f.fault, settled_pages first behind f.fault len settles)
                     ]
               ]
         ]

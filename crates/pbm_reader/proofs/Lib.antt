@@ -27,3 +27,6 @@ pub mod PixelLoop
 pub mod PlainRows
 pub mod TailLoop
 pub mod WholePage
+pub mod ImageRead
+pub mod Coming
+pub mod NextImage

@@ -13,6 +13,7 @@ use Rattle.pbm_reader.specs.declared.form.Form.TheVariants.{Plain, Raw}
 use Rattle.packed_rows.specs.Page.{Page, IsPageSize}
 use Rattle.pbm_reader.specs.Spelling.{IsHeader, IsRaster, MayFollow, SpellsRows, IsPage, Spells}
 use Rattle.pbm_reader.specs.Fault.{IsFrontOf, HasPageHeader, HasFault, IsTruncated, IsPixelFault, IsTrailing, IsInputTooLong}
+use Rattle.pbm_reader.specs.Images.{SpellsIn}
 use Rattle.pbm_reader.specs.Given.{AfterRows}
 use Rattle.pbm_reader.specs.Raster.{RasterFails, TookRaster}
 use Rattle.pbm_reader.specs.Tail.{TailFails, TookTail}
@@ -128,6 +129,12 @@ spells given old middle later header end empty after tail t r follows low =
       short = omega (arith, low, r.end_is, t.len, length-append t.bytes (r.raster ++ tail), length-append r.raster tail);
     }
 
+pub spells_in : {Sink : Type 0} (given : Sink → List ℕ → Sink → Type 0) (old middle later : SourceView) (header : Header) (end : ℕ) (empty after : Sink) (tail : List ℕ)
+    → (t : TookHeader old middle header) → (r : TookRaster given middle later header.form header.size.width header.size.height header.len end empty after)
+    → MayFollow header.form tail → end + length tail ≤ 268435456 → SpellsIn header.form (t.bytes ++ (r.raster ++ tail)) r.page
+unfolding spells
+spells_in given old middle later header end empty after tail t r follows low = (spells given old middle later header end empty after tail t r follows low, refl)
+
 -- the rows that spell a page make up a raster
 rows_raster : (form : Form) (page : Page) (raster : List ℕ) → SpellsRows form page raster → IsRaster form page.width page.height raster
 rows_raster Plain page raster rows = (rows.0, rows.1, rows.2)
@@ -162,7 +169,7 @@ trailing given old middle later header end empty after byte rest t r refused low
     })
 
 -- what was taken up to a tail
-took_three : (old middle later new : SourceView) (a b c : List ℕ) → Took old middle a → Took middle later b → Took later new c → Took old new (a ++ (b ++ c))
+pub took_three : (old middle later new : SourceView) (a b c : List ℕ) → Took old middle a → Took middle later b → Took later new c → Took old new (a ++ (b ++ c))
 took_three old middle later new a b c p q r = took_more old middle new a (b ++ c) p (took_more middle later new b c q r)
 
 pub tail_refuses : {Sink : Type 0} (given : Sink → List ℕ → Sink → Type 0) (old middle later new : SourceView) (header : Header) (end : ℕ) (empty after : Sink) (fault : PageFault)

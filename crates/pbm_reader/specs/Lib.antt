@@ -10,3 +10,4 @@ pub mod Header
 pub mod Raster
 pub mod Plain
 pub mod Tail
+pub mod Reader

@@ -4,8 +4,9 @@ use Rattle.pbm_reader.specs.declared.limits.TheConstants.{MAX_INPUT}
 use Rattle.pbm_reader.specs.declared.fault.PageFault.{PageFault}
 use Rattle.pbm_reader.specs.declared.fault.PageFault.TheVariants as faults
 use Rattle.pbm_reader.specs.declared.form.Form.{Form}
+use Rattle.pbm_reader.specs.declared.form.Form.TheVariants.{Plain}
 use Rattle.pbm_reader.specs.Spelling.{MayFollow}
-use Rattle.layout_outside.specs.Taken.{Took, TookAll}
+use Rattle.layout_outside.specs.Taken.{HasEnded, Took, TookAll}
 use Rattle.layout_outside.specs.Views.{SourceView}
 
 -- all that was left was taken, from one offset to another, and it is within the limit
@@ -43,3 +44,16 @@ TailFails old new form start faults.InputTooLong = (tail : List ℕ) × Took old
 TailFails old new form start faults.ReadFault = (tail : List ℕ) × Took old new tail × MayFollow form tail
     × (start + length tail ≤ MAX_INPUT)
 TailFails old new form start fault = ⊥
+
+-- what belongs to an image behind its raster was taken, from one offset to another: nothing where it is raw, all where it is plain
+pub record TookBehind (old new : SourceView) (form : Form) (start end : ℕ) : Type 0 where
+  pub tail : List ℕ
+  pub took : Took old new tail
+  pub follows : MayFollow form tail
+  pub end_is : end ≡ start + length tail
+  pub low : start + length tail ≤ MAX_INPUT
+  pub ended : form ≡ Plain → HasEnded new
+
+-- why what belongs to an image behind its raster was not read: it is plain
+abbrev pub BehindFails : SourceView → SourceView → Form → ℕ → PageFault → Type 0
+BehindFails old new form start fault = TailFails old new form start fault × (form ≡ Plain)

@@ -122,7 +122,7 @@ impl Piece {
     }
 
     /// Drops the unread bytes, and says how many there were.
-    fn clear(&mut self) -> usize
+    pub fn clear(&mut self) -> usize
         ensures count { result ≡ length self.old.unread }
         ensures empty { self.new.unread ≡ [] }
         ensures room { self.new.room ≡ self.old.room }

@@ -5,6 +5,8 @@ mod fault;
 mod feed;
 mod form;
 mod header;
+mod image;
+mod images;
 mod law;
 mod limits;
 mod page;

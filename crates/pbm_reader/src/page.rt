@@ -76,7 +76,7 @@ fn read_from<S: Source, R: RowSink>(
 
 /// Reads the rows of a page in the form that its header names, gives each to the sink, and answers
 /// the offset of their end.
-fn read_raster<S: Source, R: RowSink>(
+pub(crate) fn read_raster<S: Source, R: RowSink>(
     alloc: Global,
     feed: &mut Feed<'_, S>,
     header: Header,
