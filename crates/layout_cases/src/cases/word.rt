@@ -27,16 +27,16 @@ fn parts_of<S: Space>(
     }
 }
 
-/// Settles the part at a place, and raises the word to its key. Answers the key, the word before, and the word after.
+/// Settles the part at a place, and raises the word to its key. Answers the key, the word before, and the word after, and
+/// nothing where the part is split.
 fn settle<S: Space>(
-    rt: &impl Abort,
     alloc: Global,
     space: &S,
     word: &WordTable<'_, S>,
     pass: &mut WordPass<S>,
     parts: &[Node<S::Work>],
     place: usize,
-) -> Result<(u64, u64, u64), OutOfMemory>
+) -> Result<Option<(u64, u64, u64)>, OutOfMemory>
     requires problem { word.now.problem ≡ S.problem space.now }
     requires own { IsCallerOf word.now pass.old }
     requires fits { All (S.fits (S.problem space.now)) parts.now }
@@ -46,9 +46,9 @@ fn settle<S: Space>(
     match space.step(alloc, &parts[place])? {
         Step::Settled(key) => {
             let (before, after) = raise_and_read(word, pass, key);
-            Ok((key, before, after))
+            Ok(Some((key, before, after)))
         }
-        Step::Split(_) => panic!(rt; "the node is split"),
+        Step::Split(_) => Ok(None),
     }
 }
 
@@ -72,16 +72,16 @@ fn bound_word_by_hand(rt: HostRuntime) -> Result<(), Fail> {
     let (word, mut pass) = WordTable::start(alloc, &white)?;
     assert_eq!(rt; word.read(&mut pass), 0);
     assert_eq!(rt;
-        settle(&rt, alloc, &white, &word, &mut pass, &parts, 1)?,
-        (BELOW, 0, BELOW)
+        settle(alloc, &white, &word, &mut pass, &parts, 1)?,
+        Some((BELOW, 0, BELOW))
     );
     assert_eq!(rt;
-        settle(&rt, alloc, &white, &word, &mut pass, &parts, 0)?,
-        (RIGHT, BELOW, RIGHT)
+        settle(alloc, &white, &word, &mut pass, &parts, 0)?,
+        Some((RIGHT, BELOW, RIGHT))
     );
     assert_eq!(rt;
-        settle(&rt, alloc, &white, &word, &mut pass, &parts, 1)?,
-        (BELOW, RIGHT, RIGHT)
+        settle(alloc, &white, &word, &mut pass, &parts, 1)?,
+        Some((BELOW, RIGHT, RIGHT))
     );
     Ok(())
 }
