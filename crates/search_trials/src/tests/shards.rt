@@ -1,13 +1,12 @@
-//! Split searches that are closed at once or worked by hand, and one by two threads.
-ghost use Rattle.std.specs.Prelude.{◌≡◌, ◌≢◌, ◌<◌, ◌≤◌, ◌∷◌, []};
+//! Split searches that are closed at once or after one lease, and one by two threads.
+ghost use Rattle.std.specs.Prelude.{◌≡◌, ◌<◌, ◌≤◌, []};
 ghost use Rattle.std.specs.Thread.{IsSync};
 ghost use Rattle.layout_limits.specs.declared.TheConstants.{MAX_WORKERS};
 ghost use Rattle.split_frontier.specs.Callers.{IsOwn};
-ghost use Rattle.split_frontier.specs.Claims.{unspent, spent};
 
 use super::{BELOW, RIGHT};
 use crate::{ShardHand, Table};
-use box_search::{Lease, Space, Take};
+use box_search::{Space, Take};
 use frontier_turn::Closed;
 use layout_limits::OutOfMemory;
 use split_frontier::{Shards, SplitPass};
@@ -41,133 +40,6 @@ fn shards_closed_at_once(rt: HostRuntime) -> Result<(), Fail> {
     Ok(())
 }
 
-/// Leases the node of these places, which has number 0.
-fn lease_at<S: Space, R: Abort + Wait>(
-    hand: &ShardHand<'_, '_, S, R>,
-    pass: SplitPass<S>,
-    shard: u32,
-    places: (i32, i32),
-) -> (Lease<S::Work>, SplitPass<S>)
-    requires own { IsOwn hand.now.shards.now pass }
-    requires there { shard < hand.now.shards.now.shards }
-    requires unnamed { pass.view.rest.leases ≡ [] }
-    ensures own { IsOwn hand.now.shards.now result.1 }
-    ensures parts { result.1.view.rest.parts ≡ pass.view.rest.parts }
-    ensures named { result.1.view.rest.leases ≡ unspent shard result.0 ∷ [] }
-    ensures fit { S.fits hand.now.shards.now.problem result.0.node }
-{
-    let (take, pass) = hand.lease_from(pass, shard);
-    match take {
-        Take::Leased(lease) => {
-            let shape = lease.node.shape;
-            assert_eq!(hand.rt; (lease.number, shape.a0, shape.a1), (0, places.0, places.1));
-            (lease, pass)
-        }
-        _ => panic!(hand.rt; "nothing was leased"),
-    }
-}
-
-/// Finds nothing to lease: something is out, or nothing is left.
-fn lease_nothing<S: Space, R: Abort + Wait>(
-    hand: &ShardHand<'_, '_, S, R>,
-    pass: SplitPass<S>,
-    shard: u32,
-    is_done: bool,
-) -> SplitPass<S>
-    requires own { IsOwn hand.now.shards.now pass }
-    requires there { shard < hand.now.shards.now.shards }
-    requires unnamed { pass.view.rest.leases ≡ [] }
-    ensures own { IsOwn hand.now.shards.now result }
-    ensures parts { result.view.rest.parts ≡ pass.view.rest.parts }
-    ensures unnamed { result.view.rest.leases ≡ [] }
-{
-    let (take, pass) = hand.lease_from(pass, shard);
-    match take {
-        Take::Leased(_) => panic!(hand.rt; "a node was leased"),
-        Take::Idle => assert!(hand.rt; !is_done),
-        Take::Done => assert!(hand.rt; is_done),
-    }
-    pass
-}
-
-/// Asks once for the turn of a shard, and gives it back. Says whether it came.
-fn try_turn<S: Space>(
-    shards: &Shards<'_, S>,
-    pass: SplitPass<S>,
-    shard: u32,
-) -> (bool, SplitPass<S>)
-    requires own { IsOwn shards.now pass }
-    requires there { shard < shards.now.shards }
-    ensures own { IsOwn shards.now result.1 }
-    ensures parts { result.1.view.rest.parts ≡ pass.view.rest.parts }
-    ensures leases { result.1.view.rest.leases ≡ pass.view.rest.leases }
-{
-    match shards.try_enter(pass, shard) {
-        Ok(turn) => (true, turn.leave()),
-        Err(back) => (false, back),
-    }
-}
-
-/// Ends a spent lease of shard 0 in a turn, in which another pass asks for the turns of shards 0 and 1. Says which came.
-fn end_beside<S: Space, R: Wait>(
-    rt: &R,
-    shards: &Shards<'_, S>,
-    pass: SplitPass<S>,
-    other: SplitPass<S>,
-    lease: Lease<S::Work>,
-) -> ((bool, bool), SplitPass<S>, SplitPass<S>)
-    requires own { IsOwn shards.now pass }
-    requires other { IsOwn shards.now other }
-    requires there { 1 < shards.now.shards }
-    requires named { pass.view.rest.leases ≡ spent 0 lease ∷ [] }
-    ensures own { IsOwn shards.now result.1 }
-    ensures other { IsOwn shards.now result.2 }
-    ensures parts { result.1.view.rest.parts ≡ pass.view.rest.parts }
-    ensures other_parts { result.2.view.rest.parts ≡ other.view.rest.parts }
-    ensures unnamed { result.1.view.rest.leases ≡ [] }
-    ensures other_leases { result.2.view.rest.leases ≡ other.view.rest.leases }
-{
-    let mut turn = shards.enter(rt, pass, 0);
-    let (first, other) = try_turn(shards, other, 0);
-    let (second, other) = try_turn(shards, other, 1);
-    turn.end(lease);
-    ((first, second), turn.leave(), other)
-}
-
-// A lease of shard 0 is adopted into shard 1 and ended at home, while another pass looks on, who then searches shard 1.
-#[test]
-fn adopt_and_end_by_hand(rt: HostRuntime) -> Result<(), Fail> {
-    let alloc = rt.alloc();
-    let keys = Table::new(&[RIGHT, BELOW]);
-    let root = keys.root(alloc)?;
-    let (shards, mut first) = Shards::start(alloc, &keys, root, 2)?;
-    let second = shards.split(&mut first);
-    let hand = ShardHand {
-        rt: &rt,
-        space: &keys,
-        shards: &shards,
-        own: 1,
-    };
-    let (both, first) = lease_at(&hand, first, 0, (0, 2));
-    let (adopted, first) = hand.hand_over(alloc, first, 0, &both);
-    assert!(rt; adopted);
-    let second = lease_nothing(&hand, second, 0, false);
-    let (came, mut first, second) = end_beside(&rt, &shards, first, second, both);
-    assert_eq!(rt; came, (false, true));
-    let (right, second) = lease_at(&hand, second, 1, (0, 1));
-    let (ended, second) = hand.settle(alloc, second, right);
-    assert!(rt; ended);
-    let (below, second) = lease_at(&hand, second, 1, (1, 2));
-    let (ended, second) = hand.settle(alloc, second, below);
-    assert!(rt; ended);
-    shards.join(&mut first, second);
-    let first = lease_nothing(&hand, first, 0, true);
-    let first = lease_nothing(&hand, first, 1, true);
-    let closed = shards.close(first);
-    assert_eq!(rt; (closed.word, closed.waiting, closed.leased), (RIGHT, 0, 0));
-    Ok(())
-}
-
 /// Works off one lease of shard 0 by a worker of this shard of two. Says whether it ended, and how the search stands.
 fn work_off_one<R: Abort + Wait>(
     rt: &R,
@@ -185,7 +57,10 @@ fn work_off_one<R: Abort + Wait>(
         shards: &shards,
         own,
     };
-    let (lease, pass) = lease_at(&hand, pass, 0, (0, 2));
+    let (take, pass) = hand.lease_from(pass, 0);
+    let Take::Leased(lease) = take else {
+        panic!(rt; "nothing was leased");
+    };
     let (ended, pass) = hand.work_off(alloc, pass, 0, lease);
     let closed = shards.close(pass);
     Ok((ended, (closed.word, closed.waiting, closed.leased)))

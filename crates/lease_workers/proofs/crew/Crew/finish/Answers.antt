@@ -1,13 +1,13 @@
-use Rattle.std.proofs.Common.{◌≡◌, sym, ap, ◌∙◌, subst, List, ℤ, false}
+use Rattle.std.proofs.Common.{◌≡◌, sym, ap, ◌∙◌, subst, List, ℤ}
 use Rattle.frontier_turn.specs.Holding.{Replaces}
 use Rattle.split_frontier.specs.declared.view.View.{View}
 use Rattle.split_frontier.specs.Claims.{unspent}
-use Rattle.split_frontier.proofs.Working.{none_left}
-use Rattle.lease_workers.proofs.Turning.{named_there, named_again}
+use Rattle.split_frontier.proofs.Working.{only_named_here, none_left}
+use Rattle.lease_workers.proofs.Turning.{named_again}
 use Rattle.lease_workers.proofs.crew.Crew.finish.Goals as goal
 
 pub finish-requires-clause-named : goal.finish-requires-clause-named
-finish-requires-clause-named g c κs within = named_there c.enter-turn.result.leases c.enter-turn.result.shard c.args.worker.now.own c.args.lease false (c.enter-turn.ensures.shard ∙ c.pass_gate.ensures) (c.enter-turn.ensures.leases ∙ c.requires.named)
+finish-requires-clause-named g c κs within = only_named_here c.enter-turn.result.leases (λ home. unspent home c.args.lease) c.args.worker.now.own c.enter-turn.result.shard (c.enter-turn.ensures.leases ∙ c.requires.named) (c.enter-turn.ensures.shard ∙ c.pass_gate.ensures)
 
 pub finish-requires-clause-replaces : goal.finish-requires-clause-replaces
 finish-requires-clause-replaces g c κs within =

@@ -2,7 +2,7 @@ use Rattle.std.proofs.Common.{ap, ◌∙◌}
 use Rattle.split_frontier.specs.declared.view.View.{View}
 use Rattle.split_frontier.specs.Claims.{spent}
 use Rattle.split_frontier.proofs.Working.{only_named_here, none_left}
-use Rattle.search_trials.proofs.tests.shards.end_beside.Goals as goal
+use Rattle.layout_cases.proofs.cases.shards.end_beside.Goals as goal
 
 pub end-requires-clause-named : goal.end-requires-clause-named
 end-requires-clause-named g c κs within = only_named_here c.enter-turn.result.leases (λ home. spent home c.args.lease) 0 c.enter-turn.result.shard (c.enter-turn.ensures.leases ∙ c.requires.named) c.enter-turn.ensures.shard
