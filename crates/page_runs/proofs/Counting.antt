@@ -1,5 +1,5 @@
 -- Counting black pixels row by row.
-use Rattle.std.proofs.Common.{◌≡◌, ◌≢◌, ℕ, zero, suc, ◌+◌, ◌<◌, Bool, true, false, cond, eqb, ltb, ◌&&◌, List, [], ◌∷◌, ◌++◌, length, inl, inr, refl, sym, ap, ◌∙◌, arith}
+use Rattle.std.proofs.Common.{◌≡◌, ◌≢◌, ℕ, zero, suc, ◌+◌, ◌-◌, ◌<◌, ◌≤◌, Bool, true, false, cond, eqb, ltb, ◌&&◌, List, [], ◌∷◌, ◌++◌, length, inl, inr, refl, sym, ap, ◌∙◌, arith}
 use Rattle.std.specs.Prelude.{sum_by, count_by}
 use Rattle.std.specs.List.{range_with_len, list_any}
 use Rattle.std.proofs.lemmas.Bool.{cases_order}
@@ -28,6 +28,34 @@ pub black_more : (bits : List ℕ) (x : ℕ) → black_in (x + 1) bits ≡ black
 black_more bits x =
     let e : x + 1 ≡ suc x = omega arith in
     ap (λ (n : ℕ). black_in n bits) e ∙ sum_more (λ k. cond (eqb (pixel bits k) 1) 1 0) x
+
+-- from one column to another all pixels are black
+pub black_run : (bits : List ℕ) (x more : ℕ) → ((k : ℕ) → x ≤ k → k < x + more → pixel bits k ≡ 1) → black_in (x + more) bits ≡ black_in x bits + more
+black_run bits x zero all = let same : x + 0 ≡ x = omega arith in omega (arith, ap (λ (n : ℕ). black_in n bits) same)
+black_run bits x (suc more) all =
+    let next : x + suc more ≡ x + more + 1 = omega arith in
+    let here : eqb (pixel bits (x + more)) 1 ≡ true = ap (λ (b : ℕ). eqb b 1) (all (x + more) (omega arith) (omega arith)) in
+    let last : black_in (x + more + 1) bits ≡ black_in (x + more) bits + 1 = rw here at (black_more bits (x + more)) in
+    omega (arith, ap (λ (n : ℕ). black_in n bits) next, last, black_run bits x more (λ k from to. all k from (omega (arith, to))))
+
+-- from one column to another all pixels are white
+pub white_run : (bits : List ℕ) (x more : ℕ) → ((k : ℕ) → x ≤ k → k < x + more → pixel bits k ≡ 0) → black_in (x + more) bits ≡ black_in x bits
+white_run bits x zero all = let same : x + 0 ≡ x = omega arith in ap (λ (n : ℕ). black_in n bits) same
+white_run bits x (suc more) all =
+    let next : x + suc more ≡ x + more + 1 = omega arith in
+    let here : eqb (pixel bits (x + more)) 1 ≡ false = ap (λ (b : ℕ). eqb b 1) (all (x + more) (omega arith) (omega arith)) in
+    let last : black_in (x + more + 1) bits ≡ black_in (x + more) bits + 0 = rw here at (black_more bits (x + more)) in
+    omega (arith, ap (λ (n : ℕ). black_in n bits) next, last, white_run bits x more (λ k from to. all k from (omega (arith, to))))
+
+-- the white and the black pixels up to a column, and those of a run and of the white behind it
+pub run_counted : (bits : List ℕ) (x end next : ℕ) → x ≤ end → end ≤ next → ((k : ℕ) → x ≤ k → k < end → pixel bits k ≡ 1) → ((k : ℕ) → end ≤ k → k < next → pixel bits k ≡ 0)
+    → black_in next bits ≡ black_in x bits + (end - x)
+run_counted bits x end next from on blacks whites =
+    let to_end : x + (end - x) ≡ end = omega (arith, from) in
+    let to_next : end + (next - end) ≡ next = omega (arith, on) in
+    let black = black_run bits x (end - x) (λ k left right. blacks k left (omega (arith, right, to_end))) in
+    let white = white_run bits end (next - end) (λ k left right. whites k left (omega (arith, right, to_next))) in
+    omega (arith, black, white, ap (λ (n : ℕ). black_in n bits) to_end, ap (λ (n : ℕ). black_in n bits) to_next)
 
 count_same : (p q : ℕ → Bool) (n : ℕ) → ((x : ℕ) → x < n → p x ≡ q x) → count_by p (range_with_len 0 n) ≡ count_by q (range_with_len 0 n)
 count_same p q zero same = refl

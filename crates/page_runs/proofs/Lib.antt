@@ -1,6 +1,5 @@
 pub mod Slices
 pub mod Counting
-pub mod Ones
 pub mod Blacks
 pub mod Pushing
 pub mod Held

@@ -1,7 +1,6 @@
 //! The black pixels of a page, as the runs of each row, and a sink for the rows that a reader gives.
 #![tactic(auto)]
 
-mod black;
 mod row_runs;
 mod row_words;
 mod run_page;

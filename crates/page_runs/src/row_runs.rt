@@ -1,6 +1,7 @@
 //! The maximal runs of black pixels of one row of packed bytes.
-ghost use Rattle.std.specs.Prelude.{◌≡◌, ◌<◌, ◌≤◌, ◌-◌, ◌/◌, ℕ, OnOk, OnErr, length};
+ghost use Rattle.std.specs.Prelude.{◌≡◌, ◌<◌, ◌≤◌, ◌-◌, ◌/◌, ℕ, OnOk, OnErr, IfOk, length};
 ghost use Rattle.packed_rows.specs.Page.{row_len, pixel};
+ghost use Rattle.page_runs.specs.Black.{black_in};
 ghost use Rattle.page_runs.specs.Runs.{AddsRow, Extends};
 
 use crate::row_words::{BLACK, WHITE, WORD_PIXELS, first_in_word, word_at};
@@ -40,18 +41,22 @@ fn next_pixel(bits: &[u8], from: u16, width: u16, colour: u8) -> u16
     width
 }
 
-/// Adds the runs of a row, from the left. Where memory is refused some of them were added.
-pub(crate) fn add_row(runs: &mut Vec<Run>, bits: &[u8], width: u16) -> Result<(), OutOfMemory>
+/// Adds the runs of a row, from the left, and answers how many of its pixels are black. Where memory is refused some of
+/// the runs were added.
+pub(crate) fn add_row(runs: &mut Vec<Run>, bits: &[u8], width: u16) -> Result<u64, OutOfMemory>
     requires width { width ≤ MAX_SIDE }
     requires len { length bits.now ≡ row_len width }
     ensures ok { OnOk result (AddsRow bits.now width width runs.old.items runs.new.items) }
     ensures err { OnErr result (Extends runs.old.items runs.new.items) }
+    ensures black { IfOk result (λ black. (black ≡ black_in width bits.now) × (black ≤ width)) }
 {
+    let mut black = 0u64;
     let mut x = next_pixel(bits, 0, width, BLACK);
     while x < width {
         let end = next_pixel(bits, x, width, WHITE);
         runs.push(Run { x0: x, x1: end })?;
+        black += u64::from(end - x);
         x = next_pixel(bits, end, width, BLACK);
     }
-    Ok(())
+    Ok(black)
 }

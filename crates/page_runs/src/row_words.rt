@@ -47,7 +47,7 @@ fn pixels_of(word: u64, colour: u8) -> u64
 }
 
 /// The place of the first pixel of this colour in a word, from a place on, or `WORD_PIXELS` where there is
-/// none.
+/// none. A white word, of which a page has most, is passed over at once.
 pub(crate) fn first_in_word(word: u64, from: u16, colour: u8) -> u16
     requires from { from < WORD_PIXELS }
     requires colour { colour ≤ 1 }
@@ -56,6 +56,9 @@ pub(crate) fn first_in_word(word: u64, from: u16, colour: u8) -> u16
     ensures other { (k : ℕ) → from ≤ k → k < result → bit_at word (63 - k) ≡ 1 - colour }
     ensures found { result < WORD_PIXELS → bit_at word (63 - result) ≡ colour }
 {
+    if colour == BLACK && word == 0 {
+        return WORD_PIXELS;
+    }
     let ahead = pixels_of(word, colour) & (u64::MAX >> from);
     ahead.leading_zeros() as u16
 }

@@ -1,12 +1,11 @@
 //! A page whose rows come one by one from the top.
-ghost use Rattle.std.specs.Prelude.{◌≡◌, ◌<◌, ◌≤◌, ◌+◌, ◌^◌, ℕ, [], ◌∷◌, ◌++◌, OnOk, OnErr, IsTrue, ◌↔◌, length, slice_index};
+ghost use Rattle.std.specs.Prelude.{◌≡◌, ◌<◌, ◌≤◌, ◌+◌, ◌^◌, ℕ, [], ◌∷◌, ◌++◌, OnOk, OnErr, IfOk, IsTrue, ◌↔◌, length, slice_index};
 ghost use Rattle.packed_rows.specs.Page.{Page, IsPackedRow, IsPageSize, row_len};
 ghost use Rattle.page_runs.specs.Packed.{Holds, IsWhole, page_of, row_of, rows_of};
 ghost use Rattle.page_runs.specs.Runs.{AddsRow, AreRunsOf, Extends};
-ghost use Rattle.page_runs.specs.Black.{black_of};
+ghost use Rattle.page_runs.specs.Black.{black_in, black_of};
 ghost use Rattle.page_runs.specs.Rows.{Given, GivenPageIsHeld};
 
-use crate::black::black_in;
 use crate::row_runs::{Run, add_row};
 use layout_limits::{MAX_SIDE, OutOfMemory};
 use pbm_reader::RowSink;
@@ -39,24 +38,25 @@ impl Model for RunPage {
     ghost invariant = { λ p. IsPacked (record { width = p.width; height = p.height; runs = p.runs.items; ends = p.ends.items }) p.black };
 }
 
-/// Adds a row's runs, and where they end. Where memory is refused some runs may have been added, but no end.
+/// Adds a row's runs, and where they end, and answers how many of its pixels are black. Where memory is refused some runs may have been added, but no end.
 fn add_ended_row(
     runs: &mut Vec<Run>,
     ends: &mut Vec<u32>,
     bits: &[u8],
     width: u16,
-) -> Result<(), OutOfMemory>
+) -> Result<u64, OutOfMemory>
     requires width { width ≤ MAX_SIDE }
     requires len { length bits.now ≡ row_len width }
     requires room { length runs.old.items + MAX_SIDE < 2 ^ 32 }
+    ensures black { IfOk result (λ black. (black ≡ black_in width bits.now) × (black ≤ width)) }
     ensures added { OnOk result (AddsRow bits.now width width runs.old.items runs.new.items) }
     ensures ended { OnOk result (ends.new.items ≡ ends.old.items ++ length runs.new.items ∷ []) }
     ensures begun { OnErr result (Extends runs.old.items runs.new.items) }
     ensures none_ended { OnErr result (ends.new.items ≡ ends.old.items) }
 {
-    add_row(runs, bits, width)?;
+    let black = add_row(runs, bits, width)?;
     ends.push(runs.len() as u32)?;
-    Ok(())
+    Ok(black)
 }
 
 #[tactic(auto, unfolding(crate::specs::Packed::page_of, crate::specs::Packed::rows_of, crate::specs::Packed::row_of))]
@@ -143,10 +143,9 @@ impl RunPage {
         ensures ok { OnOk result (Given self.old bits.now self.new) }
         ensures err { OnErr result (self.new ≡ self.old) }
     {
-        let black = black_in(bits, self.width);
         let len = self.runs.len();
         match add_ended_row(&mut self.runs, &mut self.ends, bits, self.width) {
-            Ok(()) => {
+            Ok(black) => {
                 self.black += black;
                 Ok(())
             }

@@ -8,7 +8,7 @@ invariant_of-self c =
     let room = rw (← c.self.view_is) at c.requires.more in
     let row = rw (← c.self.view_is) at c.requires.packed in
     let added = c.in-Ok.ensures.added in
-    rw (c.in-Ok.ensures.ended, added.is) (pushed _ _ _ _ c.self.invariant room row added.are _ c.black_in-black.ensures.value c.black_in-black.ensures.bound)
+    rw (c.in-Ok.ensures.ended, added.is) (pushed _ _ _ _ c.self.invariant room row added.are _ c.in-Ok.ensures.black.0 c.in-Ok.ensures.black.1)
 
 pub returns-in-Ok-clause-ok : goal.returns-in-Ok-clause-ok
 unfolding page_of rows_of
