@@ -1,5 +1,5 @@
 -- The line of a slope on which a box stands exactly, and how many living boxes stand on the same between the same gutters.
-use Rattle.std.specs.Prelude.{ℕ, zero, suc, ◌+◌, ◌-◌, min, ℤ, pos, ◌+ℤ◌, ◌-ℤ◌, unsigned_abs, Bool, false, ◌&&◌, ◌==◌, nat_le, cond, List}
+use Rattle.std.specs.Prelude.{ℕ, ◌+◌, ◌-◌, min, ℤ, pos, ◌+ℤ◌, ◌-ℤ◌, unsigned_abs, Bool, false, ◌&&◌, ◌==◌, nat_le, cond, List}
 use Rattle.std.specs.Prelude.{Option, Some, None, slice_get}
 use Rattle.std.specs.List.{count_by, sum_by}
 use Rattle.layout_geom.specs.declared.rect.Rect.{Rect}
@@ -43,12 +43,6 @@ abbrev pub segment_weight : List Rect → List Rect → ℤ → ℤ → ℕ → 
 segment_weight boxes gutters slope offset depth segment positions = sum_by
     (λ position. cond (is_in gutters segment (slice_get boxes position))
     (weight_of slope offset depth (slice_get boxes position)) 0) positions
-
--- what the boxes of the first segments weigh together for a line
-unfoldable pub joined_weight : List Rect → List Rect → ℤ → ℤ → ℕ → ℕ → List ℕ → ℕ
-joined_weight boxes gutters slope offset depth zero positions = 0
-joined_weight boxes gutters slope offset depth (suc segments) positions =
-    joined_weight boxes gutters slope offset depth segments positions + segment_weight boxes gutters slope offset depth segments positions
 
 -- the first place that weighs something for a line of this offset
 abbrev pub first_place : ℤ → ℕ

@@ -1,5 +1,5 @@
 -- The greatest key of a stretch of the grid: a slope, a range of offsets and a range of depths.
-use Rattle.std.specs.Prelude.{◌≡◌, ℕ, ◌+◌, ◌*◌, ◌<◌, ◌≤◌, ◌⊎◌, ℤ, pos, ◌+ℤ◌, ◌≤ℤ◌, ◌<ℤ◌, length, slice_index}
+use Rattle.std.specs.Prelude.{◌≡◌, ℕ, ◌+◌, ◌*◌, ◌<◌, ◌≤◌, ◌⊎◌, ℤ, pos, ◌+ℤ◌, ◌≤ℤ◌, ◌<ℤ◌, List, length, slice_index}
 use Rattle.layout_limits.specs.declared.TheConstants.{MAX_SIDE}
 use Rattle.line_quality.specs.declared.limits.TheConstants.{LEAST_OFFSET, OFFSET_MARGIN, MAX_DEPTH}
 use Rattle.line_quality.specs.Points.{IsSlope}
@@ -9,6 +9,8 @@ use Rattle.line_counts.specs.declared.stretch.Stretch.{Stretch}
 use Rattle.line_counts.specs.declared.tops.Tops.{Tops}
 use Rattle.line_counts.specs.declared.limits.TheConstants.{MAX_SEGMENTS}
 use Rattle.line_quality.specs.declared.limits.TheConstants.{MAX_SCORE}
+use Rattle.layout_geom.specs.declared.rect.Rect.{Rect}
+use Rattle.line_counts.specs.Fits.{column_of_segment}
 use Rattle.line_counts.specs.Table.{LivingPage}
 
 -- the line scores at least so much among the living boxes, and has the key
@@ -38,6 +40,12 @@ pub record IsGreaterKey (admits : ℕ → Type 0) (before word : ℕ) : Type 0 w
   pub from : (word ≡ before) ⊎ admits word
   pub no_less : before ≤ word
   pub greatest : (key : ℕ) → admits key → (0 < word) × (key ≤ word)
+
+-- each line of the stretch has a column that begins with the segment
+abbrev pub IsCutBefore : List Rect → Stretch → ℕ → Type 0
+IsCutBefore gutters stretch segment = (more before : ℕ) → more < stretch.offsets → before < segment
+    → column_of_segment stretch.slope (stretch.from +ℤ pos more) gutters before
+    < column_of_segment stretch.slope (stretch.from +ℤ pos more) gutters segment
 
 -- a line of the stretch scores at most the top of its offset and that of the offset behind it by its depth
 pub record AreTops (page : LivingPage) (stretch : Stretch) (tops : Tops) : Type 0 where

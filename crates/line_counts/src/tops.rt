@@ -1,14 +1,18 @@
-//! How much lines can score at most: the sum of what two lines of no depth score.
-ghost use Rattle.std.specs.Prelude.{◌≡◌, ◌+◌, ◌*◌, ◌≤◌, pos, ◌+ℤ◌, ◌≤ℤ◌, length};
-ghost use Rattle.line_quality.specs.Points.{IsSlope};
+//! How much lines can score at most: the sum of what two lines of no depth score. A column has no boxes on both sides of a
+//! gutter that all lines of a stretch cross.
+ghost use Rattle.std.specs.Prelude.{◌≡◌, ◌+◌, ◌*◌, ◌<◌, ◌≤◌, pos, ◌+ℤ◌, ◌≤ℤ◌, ℕ, max, length, slice_index, IsTrue};
+ghost use Rattle.line_quality.specs.Points.{IsSlope, Crosses, middle_of};
 ghost use Rattle.line_counts.specs.Fits;
-ghost use Rattle.line_counts.specs.Stretches.{IsOfPage, AreTops};
+ghost use Rattle.line_counts.specs.Fits.{segment_of};
+ghost use Rattle.line_counts.specs.Stretches.{IsOfPage, IsCutBefore, AreTops};
 
 use crate::counts::Counts;
+use crate::fit::segment;
 use crate::limits::MAX_SEGMENTS;
 use crate::stretch::Stretch;
+use layout_geom::{Rect, Rects};
 use layout_limits::MAX_SIDE;
-use line_quality::{LEAST_OFFSET, MAX_DEPTH, MAX_SCORE, OFFSET_MARGIN, greatest};
+use line_quality::{LEAST_OFFSET, MAX_DEPTH, MAX_SCORE, OFFSET_MARGIN, crosses, greatest, middle};
 
 /// The most offsets whose tops are found at once.
 pub(crate) const PART: u16 = 64;
@@ -33,6 +37,40 @@ fn offset_behind(from: i16, behind: usize) -> i16
     (from as i32 + behind as i32) as i16
 }
 
+/// Whether a segment begins with the middle of a gutter.
+fn begins(gutters: &Rects, gutter: &Rect, of_segment: usize) -> bool
+    ensures { IsTrue result → segment_of gutters.now (middle_of gutter.now) ≡ of_segment }
+{
+    segment(gutters, middle(gutter)) == of_segment
+}
+
+/// Whether all lines of a stretch cross a gutter: it does not look at those between the first and one behind the last.
+fn crosses_all(stretch: &Stretch, gutter: &Rect) -> bool
+    requires slope { IsSlope stretch.now.slope }
+    requires low { LEAST_OFFSET ≤ℤ stretch.now.from }
+    requires high { (stretch.now.from +ℤ pos stretch.now.offsets) ≤ℤ pos (MAX_SIDE + OFFSET_MARGIN + 1) }
+    ensures { IsTrue result → (more : ℕ) → more < stretch.now.offsets
+        → Crosses stretch.now.slope (stretch.now.from +ℤ pos more) gutter.now }
+{
+    crosses(stretch.slope, stretch.from, gutter)
+        && crosses(
+            stretch.slope,
+            offset_behind(stretch.from, stretch.offsets as usize),
+            gutter,
+        )
+}
+
+/// Raises each number of a list to that of the other list where it is greater.
+fn raise_to(each: &mut [u32], sums: &[u32])
+    requires long { length each.old ≡ length sums.now }
+    ensures long { length each.new ≡ length each.old }
+    ensures raised { (place : ℕ) → slice_index each.new place ≡ max (slice_index each.old place) (slice_index sums.now place) }
+{
+    for place in 0..each.len() {
+        each[place] = each[place].max(sums[place]);
+    }
+}
+
 impl Counts {
     /// What the boxes of a segment weigh together for a line of no depth.
     fn bell(&self, slope: i8, offset: i16, of_segment: usize) -> u32
@@ -51,20 +89,39 @@ impl Counts {
             + 25 * row[4] as u32
     }
 
-    /// What all boxes weigh together for a line of no depth.
-    fn top(&self, slope: i8, offset: i16) -> u32
-        requires slope { IsSlope slope }
-        requires low { LEAST_OFFSET ≤ℤ offset }
-        requires high { offset ≤ℤ pos (self.now.height + OFFSET_MARGIN + MAX_DEPTH) }
-        ensures value { result ≡ Fits.joined_weight self.now.boxes self.now.gutters slope offset 0
-            (length self.now.gutters + 1) self.now.alive }
-        ensures small { result ≤ MAX_SEGMENTS * MAX_SCORE }
+    /// Whether all lines of a stretch cross a gutter with whose middle the segment begins.
+    fn is_cut_before(&self, stretch: &Stretch, of_segment: usize) -> bool
+        requires of_page { IsOfPage self.now.height stretch.now }
+        ensures { IsTrue result → IsCutBefore self.now.gutters stretch.now of_segment }
     {
-        let mut total = 0;
-        for of_segment in 0..self.gutters.len() + 1 {
-            total += self.bell(slope, offset, of_segment);
+        for gutter in self.gutters.as_slice() {
+            if begins(&self.gutters, gutter, of_segment) && crosses_all(stretch, gutter) {
+                return true;
+            }
         }
-        total
+        false
+    }
+
+    /// Adds what the boxes of a segment weigh together for the lines of no depth of a stretch.
+    fn add_bells(&self, sums: &mut [u32], stretch: &Stretch, of_segment: usize)
+        requires of_page { IsOfPage self.now.height stretch.now }
+        requires few { stretch.now.offsets ≤ PART }
+        requires long { length sums.old ≡ 128 }
+        requires segment { of_segment ≤ length self.now.gutters }
+        requires room { (place : ℕ) → slice_index sums.old place ≤ MAX_SEGMENTS * MAX_SCORE }
+        ensures long { length sums.new ≡ 128 }
+        ensures more { (place : ℕ) → place < stretch.now.offsets + stretch.now.deepest
+            → slice_index sums.new place ≡ slice_index sums.old place + Fits.segment_weight self.now.boxes self.now.gutters
+            stretch.now.slope (stretch.now.from +ℤ pos place) 0 of_segment self.now.alive }
+        ensures small { (place : ℕ) → slice_index sums.new place ≤ slice_index sums.old place + MAX_SCORE }
+    {
+        for place in 0..stretch.offsets as usize + stretch.deepest as usize {
+            sums[place] += self.bell(
+                stretch.slope,
+                offset_behind(stretch.from, place),
+                of_segment,
+            );
+        }
     }
 
     /// The tops of a stretch.
@@ -73,9 +130,13 @@ impl Counts {
         requires few { stretch.now.offsets ≤ PART }
         ensures { AreTops self.now stretch.now result }
     {
-        let mut each = [0; MOST_TOPS];
-        for place in 0..stretch.offsets as usize + stretch.deepest as usize {
-            each[place] = self.top(stretch.slope, offset_behind(stretch.from, place));
+        let (mut each, mut sums) = ([0; MOST_TOPS], [0; MOST_TOPS]);
+        for of_segment in 0..self.gutters.len() + 1 {
+            if self.is_cut_before(stretch, of_segment) {
+                sums = [0; MOST_TOPS];
+            }
+            self.add_bells(sums.as_mut_slice(), stretch, of_segment);
+            raise_to(each.as_mut_slice(), &sums);
         }
         Tops {
             each,

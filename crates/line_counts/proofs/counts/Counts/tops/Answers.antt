@@ -1,65 +1,121 @@
-use Rattle.std.proofs.Common.{◌≡◌, ◌+◌, ◌<◌, ◌≤◌, ◌+ℤ◌, ◌≤ℤ◌, pos, negsuc, ℕ, ℤ, length, to_z, of_z, w8, w16, arith, ap, ◌∙◌, refl}
-use Rattle.std.proofs.Math.ListN.{length-set}
-use Rattle.std.proofs.lemmas.Int.{ints}
-use Rattle.line_counts.specs.Fits.{joined_weight}
+use Rattle.std.proofs.Common.{◌≡◌, ◌+◌, ◌*◌, ◌<◌, ◌≤◌, ◌+ℤ◌, pos, ℕ, ℤ, List, length, get_or, arith, ap, ◌∙◌, refl}
+use Rattle.line_counts.specs.Fits.{segment_weight, column_of_segment}
 use Rattle.line_counts.specs.Table.{LivingPage}
 use Rattle.line_counts.proofs.Counting.{zero_at}
-use Rattle.line_counts.proofs.Places.{held_slope, held_behind}
-use Rattle.line_counts.proofs.Bounding.{score_two, each_more, each_small, both_behind}
+use Rattle.line_counts.proofs.Bounding.{split_weight, split_top, split_sum, weight_none_yet, nothing_yet, columns_grow, score_two, both_behind}
 use Rattle.line_counts.proofs.counts.Counts.tops.Goals as goal
+use Rattle.line_counts.proofs.counts.Counts.tops.Goals.{then-is_cut_before, else-is_cut_before}
 
-pub loop-place-init : goal.loop-place-init
-loop-place-init c = record {
-  long = refl;
-  small = λ k. omega (arith, zero_at 128 k);
-  done = λ k less. absurd (omega (arith, less));
-}
-
-far : (from : ℤ) (place count deepest height : ℕ) → (from +ℤ pos count) ≤ℤ pos (height + 300 + 1) → height ≤ 8192 → deepest ≤ 63 → place < count + deepest → (from +ℤ pos place) ≤ℤ pos 8555
-far from place count deepest height high page shallow less = omega (arith, ints)
-
-held_from : (from : ℤ) (place : ℕ) → negsuc 299 ≤ℤ from → (from +ℤ pos place) ≤ℤ pos 8555 → to_z w16 (of_z w16 from) ≡ from
-held_from from place low high = omega (arith, ints)
-
-pub loop-place-preserved : goal.loop-place-preserved
-loop-place-preserved c =
+pub loop-of_segment-init : goal.loop-of_segment-init
+loop-of_segment-init c =
     let page : LivingPage = c.args.self.now in
     let stretch = c.args.stretch.now in
-    let place = c.loop-place.place in
-    let slope : ℤ = to_z w8 (of_z w8 stretch.slope) in
-    let offset : ℤ = to_z w16 (of_z w16 c.offset_behind.result) in
-    let slope_is : slope ≡ stretch.slope = held_slope stretch.slope c.requires.of_page.slope_in in
-    let high : (stretch.from +ℤ pos place) ≤ℤ pos 8555 =
-    far stretch.from place stretch.offsets stretch.deepest page.height c.requires.of_page.high c.requires.of_page.page c.requires.of_page.shallow c.loop-place-test.true in
-    let ensured : c.offset_behind.result ≡ stretch.from +ℤ pos place =
-    c.offset_behind.ensures ∙ ap (λ (o : ℤ). o +ℤ pos place) (held_from stretch.from place c.requires.of_page.low high) in
-    let offset_is : offset ≡ stretch.from +ℤ pos place = held_behind c.offset_behind.result stretch.from place ensured c.requires.of_page.low high ∙ ensured in
-    let within : place < length c.loop-place.each = omega (arith, c.loop-place.invariant.long, c.loop-place-test.true, c.requires.few, c.requires.of_page.shallow) in
     record {
-      long = length-set c.loop-place.each place c.top.result ∙ c.loop-place.invariant.long;
-      small = each_small c.loop-place.each place c.top.result 25500000 within c.top.ensures.small c.loop-place.invariant.small;
-      done = each_more c.loop-place.each place c.top.result (λ k. joined_weight page.boxes page.gutters stretch.slope (stretch.from +ℤ pos k) 0 (length page.gutters + 1) page.alive) within
-          (c.top.ensures.value
-          ∙ ap (λ (s : ℤ). joined_weight page.boxes page.gutters s offset 0 (length page.gutters + 1) page.alive) slope_is
-          ∙ ap (λ (o : ℤ). joined_weight page.boxes page.gutters stretch.slope o 0 (length page.gutters + 1) page.alive) offset_is)
-          c.loop-place.invariant.done;
+      long = refl;
+      long_sums = refl;
+      small = λ k. omega (arith, zero_at 128 k);
+      small_sums = λ k. omega (arith, zero_at 128 k);
+      tops = λ more place k less within. omega (arith, weight_none_yet page stretch.slope (stretch.from +ℤ pos more) (stretch.from +ℤ pos place) k);
+      sums = λ more place less within.
+          omega (
+            arith,
+            weight_none_yet page stretch.slope (stretch.from +ℤ pos more) (stretch.from +ℤ pos place)
+                (column_of_segment stretch.slope (stretch.from +ℤ pos more) page.gutters 0),
+          );
+    }
+
+-- the sums are small, and have what the column of the segment has, or none
+pub record IsReady (page : LivingPage) (slope from : ℤ) (offsets all n : ℕ) (sums : List ℕ) : Type 0 where
+  pub small : (k : ℕ) → get_or sums k 0 ≤ n * 1500000
+  pub enough : (more place : ℕ) → more < offsets → place < all
+      → split_weight page slope (from +ℤ pos more) (from +ℤ pos place) (column_of_segment slope (from +ℤ pos more) page.gutters n) n ≤ get_or sums place 0
+
+pub add_bells-requires-clause-room : goal.add_bells-requires-clause-room
+add_bells-requires-clause-room c =
+    let n = c.loop-of_segment.of_segment in
+    let few : n ≤ 16 = omega (arith, c.loop-of_segment-test.true, c.len-of_segment-end.ensures.value, c.self.invariant.countable.few_gutters) in
+    λ place. elim c.if-is_cut_before.branch [
+      | then-is_cut_before w ↦
+          omega (
+            arith,
+            ap (λ (xs : List ℕ). get_or xs place 0) (c.as_mut_slice.ensures.value ∙ w.sums-is),
+            zero_at 128 place,
+          )
+      | else-is_cut_before w ↦
+          omega (
+            arith,
+            few,
+            ap (λ (xs : List ℕ). get_or xs place 0) (c.as_mut_slice.ensures.value ∙ w.sums-is),
+            c.loop-of_segment.invariant.small_sums place,
+          )
+    ]
+
+pub loop-of_segment-preserved : goal.loop-of_segment-preserved
+loop-of_segment-preserved c =
+    let page : LivingPage = c.args.self.now in
+    let stretch = c.args.stretch.now in
+    let n = c.loop-of_segment.of_segment in
+    let all : ℕ = stretch.offsets + stretch.deepest in
+    let sums : List ℕ = c.if-is_cut_before.sums in
+    let ready : IsReady page stretch.slope stretch.from stretch.offsets all n sums =
+    elim c.if-is_cut_before.branch [
+      | then-is_cut_before w ↦ record {
+        small = λ k. omega (arith, ap (λ (xs : List ℕ). get_or xs k 0) w.sums-is, zero_at 128 k);
+        enough = λ more place less within.
+            omega (arith, nothing_yet page stretch n more place (c.is_cut_before.ensures w.if-is_cut_before.true) less);
+      }
+      | else-is_cut_before w ↦ record {
+        small = λ k. omega (arith, ap (λ (xs : List ℕ). get_or xs k 0) w.sums-is, c.loop-of_segment.invariant.small_sums k);
+        enough = λ more place less within. omega (arith, ap (λ (xs : List ℕ). get_or xs place 0) w.sums-is, c.loop-of_segment.invariant.sums more place less within);
+      }
+    ] in
+    let given : (k : ℕ) → get_or c.as_mut_slice.result.now k 0 ≡ get_or sums k 0 = λ k. ap (λ (xs : List ℕ). get_or xs k 0) c.as_mut_slice.ensures.value in
+    let kept : (k : ℕ) → get_or c.as_mut_slice-in-loop-of_segment.result.now k 0 ≡ get_or c.loop-of_segment.each k 0 = λ k.
+    ap (λ (xs : List ℕ). get_or xs k 0) c.as_mut_slice-in-loop-of_segment.ensures.value in
+    let bell : ℕ → ℕ → ℕ = λ place s. segment_weight page.boxes page.gutters stretch.slope (stretch.from +ℤ pos place) 0 s page.alive in
+    let col : ℕ → ℕ → ℕ = λ more s. column_of_segment stretch.slope (stretch.from +ℤ pos more) page.gutters s in
+    record {
+      long = c.raise_to.ensures.long ∙ ap (λ (xs : List ℕ). length xs) c.as_mut_slice-in-loop-of_segment.ensures.value ∙ c.loop-of_segment.invariant.long;
+      long_sums = c.add_bells.ensures.long;
+      small = λ k. omega (arith, c.raise_to.ensures.raised k, kept k, given k, c.loop-of_segment.invariant.small k, c.add_bells.ensures.small k, ready.small k);
+      small_sums = λ k. omega (arith, given k, c.add_bells.ensures.small k, ready.small k);
+      tops = λ more place k less within.
+          split_top (col more) (bell place) (λ a b order. columns_grow stretch.slope (stretch.from +ℤ pos more) page.gutters a b order) n (get_or c.loop-of_segment.each place 0) (get_or sums place 0)
+          (get_or c.raise_to.new.each place 0) (get_or c.add_bells.new.sums place 0)
+          (omega (arith, c.add_bells.ensures.more place within, given place))
+          (omega (arith, c.raise_to.ensures.raised place, kept place))
+          (ready.enough more place less within)
+          (λ j. c.loop-of_segment.invariant.tops more place j less within)
+          k;
+      sums = λ more place less within.
+          split_sum (col more) (bell place) (λ a b order. columns_grow stretch.slope (stretch.from +ℤ pos more) page.gutters a b order) n 0 (get_or sums place 0)
+          (get_or c.add_bells.new.sums place 0)
+          (omega (arith, c.add_bells.ensures.more place within, given place))
+          (ready.enough more place less within);
     }
 
 pub returns : goal.returns
 returns c =
     let page : LivingPage = c.args.self.now in
     let stretch = c.args.stretch.now in
+    let gutters_are : length c.self.inside.gutters ≡ length page.gutters = ap (λ (p : LivingPage). length p.gutters) c.self.view_is in
+    let last : c.loop-of_segment.of_segment ≡ length page.gutters + 1 =
+    omega (arith, c.loop-of_segment-test.false, c.loop-of_segment.auto.of_segment-end, c.len-of_segment-end.ensures.value, gutters_are) in
+    let few : c.loop-of_segment.of_segment ≤ 17 = omega (arith, last, gutters_are, c.self.invariant.countable.few_gutters) in
+    let small : (k : ℕ) → get_or c.loop-of_segment.each k 0 ≤ 25500000 = λ k. omega (arith, few, c.loop-of_segment.invariant.small k) in
     record {
-      long = c.loop-place.invariant.long;
-      small = c.loop-place.invariant.small;
+      long = c.loop-of_segment.invariant.long;
+      small = small;
       most = c.greatest.ensures.greatest;
-      most_small = omega (arith, c.greatest.ensures.reached, c.loop-place.invariant.small c.greatest.result.column);
+      most_small = omega (arith, c.greatest.ensures.reached, small c.greatest.result.column);
       scores = λ more depth score in_column less deep scored.
           omega (
             arith,
-            score_two page.boxes page.gutters stretch.slope (stretch.from +ℤ pos more) depth page.alive score in_column scored,
-            c.loop-place.invariant.done more (omega (arith, less, c.loop-place-test.false)),
-            c.loop-place.invariant.done (more + depth) (omega (arith, less, deep, c.loop-place-test.false)),
-            ap (λ (o : ℤ). joined_weight page.boxes page.gutters stretch.slope o 0 (length page.gutters + 1) page.alive) (both_behind stretch.from more depth),
+            score_two page stretch.slope (stretch.from +ℤ pos more) depth score in_column scored,
+            ap (λ (n : ℕ). split_weight page stretch.slope (stretch.from +ℤ pos more) (stretch.from +ℤ pos more) in_column n) last,
+            ap (λ (n : ℕ). split_weight page stretch.slope (stretch.from +ℤ pos more) (stretch.from +ℤ pos (more + depth)) in_column n) last,
+            ap (λ (o : ℤ). split_weight page stretch.slope (stretch.from +ℤ pos more) o in_column (length page.gutters + 1)) (both_behind stretch.from more depth),
+            c.loop-of_segment.invariant.tops more more in_column less (omega (arith, less)),
+            c.loop-of_segment.invariant.tops more (more + depth) in_column less (omega (arith, less, deep)),
           );
     }

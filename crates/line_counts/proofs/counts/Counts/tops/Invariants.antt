@@ -1,10 +1,17 @@
 use Rattle.std.proofs.Common.{◌≡◌, ◌+◌, ◌*◌, ◌<◌, ◌≤◌, ℕ, ◌+ℤ◌, pos, length, get_or}
-use Rattle.line_counts.specs.Fits.{joined_weight}
+use Rattle.line_counts.specs.Fits.{column_of_segment}
+use Rattle.line_counts.proofs.Bounding.{split_weight}
 use Rattle.line_counts.proofs.counts.Counts.tops.Given as goal
 
-abbrev pub invariant-loop-place : goal.invariant-loop-place
-invariant-loop-place l = record {
+abbrev pub invariant-loop-of_segment : goal.invariant-loop-of_segment
+invariant-loop-of_segment l = record {
   long : length l.each ≡ 128;
-  small : (k : ℕ) → get_or l.each k 0 ≤ 17 * 1500000;
-  done : (k : ℕ) → k < l.place → get_or l.each k 0 ≡ joined_weight l.self.boxes l.self.gutters l.stretch.slope (l.stretch.from +ℤ pos k) 0 (length l.self.gutters + 1) l.self.alive;
+  long_sums : length l.sums ≡ 128;
+  small : (k : ℕ) → get_or l.each k 0 ≤ l.of_segment * 1500000;
+  small_sums : (k : ℕ) → get_or l.sums k 0 ≤ l.of_segment * 1500000;
+  tops : (more place k : ℕ) → more < l.stretch.offsets → place < l.stretch.offsets + l.stretch.deepest
+      → split_weight l.self l.stretch.slope (l.stretch.from +ℤ pos more) (l.stretch.from +ℤ pos place) k l.of_segment ≤ get_or l.each place 0;
+  sums : (more place : ℕ) → more < l.stretch.offsets → place < l.stretch.offsets + l.stretch.deepest
+      → split_weight l.self l.stretch.slope (l.stretch.from +ℤ pos more) (l.stretch.from +ℤ pos place)
+      (column_of_segment l.stretch.slope (l.stretch.from +ℤ pos more) l.self.gutters l.of_segment) l.of_segment ≤ get_or l.sums place 0;
 }
