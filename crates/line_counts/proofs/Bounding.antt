@@ -1,5 +1,5 @@
 -- Why no line scores more than two tops.
-use Rattle.std.proofs.Common.{◌≡◌, ℕ, zero, suc, ◌+◌, ◌*◌, ◌<◌, ◌≤◌, ◌&&◌, min, max, leb, ℤ, pos, negsuc, ◌+ℤ◌, ◌≤ℤ◌, ◌<ℤ◌, int_lt, int_le, Bool, true, false, cond, eqb, List, [], ◌∷◌, length, get_or, Option, Some, None, slice_get, arith, refl, sym, ◌∙◌, ap, subst, ⊎_elim}
+use Rattle.std.proofs.Common.{◌≡◌, ℕ, zero, suc, ◌+◌, ◌*◌, ◌<◌, ◌≤◌, ◌&&◌, min, max, leb, ℤ, pos, negsuc, ◌+ℤ◌, ◌≤ℤ◌, ◌<ℤ◌, int_lt, int_le, Bool, true, false, cond, eqb, List, [], ◌∷◌, length, get_or, set, get_or-set_same, get_or-set_other, Option, Some, None, slice_get, arith, refl, sym, ◌∙◌, ap, subst, ⊎_elim}
 use Rattle.std.specs.List.{sum_by, count_by}
 use Rattle.std.proofs.lemmas.List.Sums.{sum_by-cons}
 use Rattle.std.proofs.lemmas.Int.{ints}
@@ -208,6 +208,90 @@ pub score_two : (page : LivingPage) (slope offset : ℤ) (depth score k : ℕ) �
     → score ≤ split_weight page slope offset offset k (length page.gutters + 1) + split_weight page slope offset (offset +ℤ pos depth) k (length page.gutters + 1)
 score_two page slope offset depth score k scored =
     omega (arith, scored.reached, column_all page.boxes page.gutters slope offset depth k page.alive, column_split page slope offset depth k (length page.gutters + 1))
+
+-- some part up to the last has what the first segments add to the column
+pub record HasPart (page : LivingPage) (slope offset from : ℤ) (all k n last : ℕ) (parts : List (List ℕ)) : Type 0 where
+  pub part : ℕ
+  pub inside : part ≤ last
+  pub enough : (place : ℕ) → place < all → split_weight page slope offset (from +ℤ pos place) k n ≤ get_or (get_or parts part []) place 0
+
+split_kept : (col bell : ℕ → ℕ) (k n : ℕ) → (k ≡ col n → ⊥) → split col bell k (n + 1) ≡ split col bell k n
+split_kept col bell k n differs =
+    omega (arith, ap (split col bell k) (sym (next n)), split_next col bell k n, differs_here (col n) k (bell n) differs)
+
+split_joined : (col bell : ℕ → ℕ) (k n : ℕ) → k ≡ col n → split col bell k (n + 1) ≡ split col bell (col n) n + bell n
+split_joined col bell k n same =
+    omega (
+      arith,
+      ap (split col bell k) (sym (next n)),
+      split_next col bell k n,
+      ap (λ (c : ℕ). split col bell c n) same,
+      ap (λ (c : ℕ). cond (eqb (col n) c) (bell n) 0) same,
+      same_here (col n) (bell n),
+    )
+
+module _ (page : LivingPage) (slope offset from : ℤ) (all k n last next_last : ℕ) (parts : List (List ℕ)) (sums : List ℕ) where
+  abbrev cols : ℕ → ℕ
+  cols s = column_of_segment slope offset page.gutters s
+
+  abbrev bells : ℕ → ℕ → ℕ
+  bells place s = segment_weight page.boxes page.gutters slope (from +ℤ pos place) 0 s page.alive
+
+  is_last : next_last ≡ last → (place : ℕ) → get_or (get_or parts next_last []) place 0 ≡ get_or (get_or parts last []) place 0
+  is_last same place = ap (λ (g : ℕ). get_or (get_or parts g []) place 0) same
+
+  -- one segment more: its column is in the last part, and the others are where they were
+  pub part_more : next_last < length parts → HasPart page slope offset from all k n last parts → last ≤ next_last
+      → ((place : ℕ) → place < all → split (cols) (bells place) (cols n) n + bells place n ≤ get_or sums place 0)
+      → (next_last ≡ last → (place : ℕ) → place < all → get_or (get_or parts last []) place 0 ≤ get_or sums place 0)
+      → HasPart page slope offset from all k (n + 1) next_last (set parts next_last sums)
+  part_more within held order here grown = ⊎_elim
+      (λ same. record {
+        part = next_last;
+        inside = omega arith;
+        enough = λ place less.
+            omega (
+              arith,
+              split_joined cols (bells place) k n same,
+              here place less,
+              ap (λ (xs : List ℕ). get_or xs place 0) (get_or-set_same parts next_last sums [] within),
+            );
+      })
+      (λ differs. ⊎_elim
+      (λ last_one. record {
+        part = next_last;
+        inside = omega arith;
+        enough = λ place less.
+            omega (
+              arith,
+              split_kept cols (bells place) k n differs,
+              held.enough place less,
+              ap (λ (g : ℕ). get_or (get_or parts g []) place 0) last_one,
+              grown (omega (arith, last_one, order, held.inside)) place less,
+              is_last (omega (arith, last_one, order, held.inside)) place,
+              ap (λ (xs : List ℕ). get_or xs place 0) (get_or-set_same parts next_last sums [] within),
+            );
+      })
+      (λ earlier. record {
+        part = held.part;
+        inside = omega (arith, held.inside, order);
+        enough = λ place less.
+            omega (
+              arith,
+              split_kept cols (bells place) k n differs,
+              held.enough place less,
+              ap (λ (xs : List ℕ). get_or xs place 0) (get_or-set_other parts next_last held.part sums [] earlier),
+            );
+      })
+      (cases_eq held.part next_last))
+      (cases_eq k (cols n))
+
+-- a list of parts with one set
+pub part_set : (P : List ℕ → Type 0) (parts : List (List ℕ)) (i : ℕ) (sums : List ℕ) → i < length parts → P sums → (g : ℕ) → P (get_or parts g []) → P (get_or (set parts i sums) g [])
+part_set P parts i sums within new g old = ⊎_elim
+    (λ same. subst P (sym (ap (λ (n : ℕ). get_or (set parts i sums) n []) same ∙ get_or-set_same parts i sums [] within)) new)
+    (λ differs. subst P (sym (get_or-set_other parts i g sums [] differs)) old)
+    (cases_eq g i)
 
 -- a column that begins with the segment has nothing yet
 pub nothing_yet : (page : LivingPage) (stretch : Stretch) (n more place : ℕ) → IsCutBefore page.gutters stretch n → more < stretch.offsets

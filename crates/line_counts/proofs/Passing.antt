@@ -18,13 +18,14 @@ passed : (page : LivingPage) (least best bound : ℕ) (slope offset : ℤ) (dept
 passed page least best bound slope offset depth key at high little =
     less_key at.score best key (omega (arith, at.has_key, key_below at.score slope offset depth)) (omega (arith, high, little, at.enough))
 
-module _ (page : LivingPage) (least best bound needed : ℕ) (slope offset : ℤ) (is : needed ≡ max least (best / 2 ^ 29)) (little : bound < needed) where
-  -- a line
-  pub line_passed : (depth : ℕ) → ((score in_column : ℕ) → IsScore slope offset depth page.boxes page.gutters page.alive score in_column → score ≤ bound)
-      → IsGreaterKey (IsKeyAt page least slope offset depth) best best
-  line_passed depth high = none_since (IsKeyAt page least slope offset depth) best
-      (λ key at. passed page least best bound slope offset depth key at (high at.score at.in_column at.scored) (omega (arith, is, little)))
+-- a line
+pub line_passed : (page : LivingPage) (least best needed : ℕ) (slope offset : ℤ) → needed ≡ max least (best / 2 ^ 29) → (depth : ℕ)
+    → ((score in_column : ℕ) → IsScore slope offset depth page.boxes page.gutters page.alive score in_column → score < needed)
+    → IsGreaterKey (IsKeyAt page least slope offset depth) best best
+line_passed page least best needed slope offset is depth low = none_since (IsKeyAt page least slope offset depth) best
+    (λ key at. passed page least best at.score slope offset depth key at (omega arith) (omega (arith, is, low at.score at.in_column at.scored)))
 
+module _ (page : LivingPage) (least best bound needed : ℕ) (slope offset : ℤ) (is : needed ≡ max least (best / 2 ^ 29)) (little : bound < needed) where
   -- all lines of an offset
   pub offset_passed : (shallowest deepest : ℕ) → ((depth score in_column : ℕ) → depth ≤ deepest → IsScore slope offset depth page.boxes page.gutters page.alive score in_column → score ≤ bound)
       → IsGreaterKey (IsKeyOf page least slope offset shallowest deepest) best best

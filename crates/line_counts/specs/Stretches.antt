@@ -1,5 +1,5 @@
 -- The greatest key of a stretch of the grid: a slope, a range of offsets and a range of depths.
-use Rattle.std.specs.Prelude.{◌≡◌, ℕ, ◌+◌, ◌*◌, ◌<◌, ◌≤◌, ◌⊎◌, ℤ, pos, ◌+ℤ◌, ◌≤ℤ◌, ◌<ℤ◌, List, length, slice_index}
+use Rattle.std.specs.Prelude.{◌≡◌, ℕ, ◌+◌, ◌*◌, ◌<◌, ◌≤◌, ◌⊎◌, ℤ, pos, ◌+ℤ◌, ◌≤ℤ◌, ◌<ℤ◌, List, [], length, slice_index, slice_index_or}
 use Rattle.layout_limits.specs.declared.TheConstants.{MAX_SIDE}
 use Rattle.line_quality.specs.declared.limits.TheConstants.{LEAST_OFFSET, OFFSET_MARGIN, MAX_DEPTH}
 use Rattle.line_quality.specs.Points.{IsSlope}
@@ -53,6 +53,13 @@ pub record AreTops (page : LivingPage) (stretch : Stretch) (tops : Tops) : Type 
   pub small : (place : ℕ) → slice_index tops.each place ≤ MAX_SEGMENTS * MAX_SCORE
   pub most : (place : ℕ) → slice_index tops.each place ≤ tops.most
   pub most_small : tops.most ≤ MAX_SEGMENTS * MAX_SCORE
+  pub parts_long : length tops.parts ≡ 4
+  pub part_long : (part : ℕ) → part < 4 → length (slice_index_or tops.parts part []) ≡ 128
+  pub parts_small : (part place : ℕ) → slice_index (slice_index_or tops.parts part []) place ≤ MAX_SEGMENTS * MAX_SCORE
+  pub in_part : (more depth score in_column : ℕ) → more < stretch.offsets → depth ≤ stretch.deepest
+      → IsScore stretch.slope (stretch.from +ℤ pos more) depth page.boxes page.gutters page.alive score in_column
+      → (part : ℕ) × (part < 4)
+      × (score ≤ slice_index (slice_index_or tops.parts part []) more + slice_index (slice_index_or tops.parts part []) (more + depth))
   pub scores : (more depth score in_column : ℕ) → more < stretch.offsets → depth ≤ stretch.deepest
       → IsScore stretch.slope (stretch.from +ℤ pos more) depth page.boxes page.gutters page.alive score in_column
       → score ≤ slice_index tops.each more + slice_index tops.each (more + depth)

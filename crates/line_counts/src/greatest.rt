@@ -75,8 +75,7 @@ impl Counts {
         }
         let mut best = before;
         for depth in stretch.shallowest..stretch.deepest + 1 {
-            let bound = top + tops.each[more as usize + depth as usize];
-            if bound as u64 >= needed(least, best) {
+            if self.can_score(stretch, more, depth, tops, needed(least, best)) {
                 best = self
                     .key_at(stretch.slope, offset_of(stretch, more), depth, least)
                     .max(best);

@@ -1,7 +1,8 @@
 //! How much lines can score at most: the sum of what two lines of no depth score. A column has no boxes on both sides of a
 //! gutter that all lines of a stretch cross.
-ghost use Rattle.std.specs.Prelude.{◌≡◌, ◌+◌, ◌*◌, ◌<◌, ◌≤◌, pos, ◌+ℤ◌, ◌≤ℤ◌, ℕ, max, length, slice_index, IsTrue};
+ghost use Rattle.std.specs.Prelude.{◌≡◌, ◌+◌, ◌*◌, ◌<◌, ◌≤◌, pos, ◌+ℤ◌, ◌≤ℤ◌, ℕ, max, length, slice_index, IsTrue, IsFalse};
 ghost use Rattle.line_quality.specs.Points.{IsSlope, Crosses, middle_of};
+ghost use Rattle.line_quality.specs.Scores.{IsScore};
 ghost use Rattle.line_counts.specs.Fits;
 ghost use Rattle.line_counts.specs.Fits.{segment_of};
 ghost use Rattle.line_counts.specs.Stretches.{IsOfPage, IsCutBefore, AreTops};
@@ -20,11 +21,15 @@ pub(crate) const PART: u16 = 64;
 /// As many tops have so many offsets and all depths.
 const MOST_TOPS: usize = PART as usize + MAX_DEPTH as usize + 1;
 
+/// The most parts into which gutters that all lines of a stretch cross divide a page: the last has what is behind the others.
+const MOST_PARTS: usize = 4;
+
 /// What no line of a stretch scores more than: a line of an offset and a depth no more than the top of the offset, and
 /// the top of the offset that is so much greater.
 #[derive(Drop)]
 pub(crate) struct Tops {
     pub(crate) each: [u32; MOST_TOPS],
+    pub(crate) parts: [[u32; MOST_TOPS]; MOST_PARTS],
     pub(crate) most: u32,
 }
 
@@ -89,11 +94,16 @@ impl Counts {
             + 25 * row[4] as u32
     }
 
-    /// Whether all lines of a stretch cross a gutter with whose middle the segment begins.
-    fn is_cut_before(&self, stretch: &Stretch, of_segment: usize) -> bool
+    /// Whether another part than this begins with the segment: all lines of a stretch cross a gutter with whose middle it does.
+    fn begins_part(&self, stretch: &Stretch, part: usize, of_segment: usize) -> bool
         requires of_page { IsOfPage self.now.height stretch.now }
-        ensures { IsTrue result → IsCutBefore self.now.gutters stretch.now of_segment }
+        requires part { part < MOST_PARTS }
+        ensures cut { IsTrue result → IsCutBefore self.now.gutters stretch.now of_segment }
+        ensures room { IsTrue result → part + 1 < MOST_PARTS }
     {
+        if part + 1 >= MOST_PARTS {
+            return false;
+        }
         for gutter in self.gutters.as_slice() {
             if begins(&self.gutters, gutter, of_segment) && crosses_all(stretch, gutter) {
                 return true;
@@ -131,16 +141,50 @@ impl Counts {
         ensures { AreTops self.now stretch.now result }
     {
         let (mut each, mut sums) = ([0; MOST_TOPS], [0; MOST_TOPS]);
+        let mut parts = [[0; MOST_TOPS]; MOST_PARTS];
+        let mut part = 0;
         for of_segment in 0..self.gutters.len() + 1 {
-            if self.is_cut_before(stretch, of_segment) {
+            if self.begins_part(stretch, part, of_segment) {
                 sums = [0; MOST_TOPS];
+                part += 1;
             }
             self.add_bells(sums.as_mut_slice(), stretch, of_segment);
             raise_to(each.as_mut_slice(), &sums);
+            parts[part] = sums;
         }
         Tops {
             each,
+            parts,
             most: greatest(&each).score,
         }
+    }
+
+    /// Whether a line of a stretch may score so much, by its tops.
+    pub(crate) fn can_score(
+        &self,
+        stretch: &Stretch,
+        more: u16,
+        depth: u8,
+        tops: &Tops,
+        needed: u64,
+    ) -> bool
+        requires few { stretch.now.offsets ≤ PART }
+        requires more { more < stretch.now.offsets }
+        requires depth { depth ≤ stretch.now.deepest }
+        requires shallow { stretch.now.deepest ≤ MAX_DEPTH }
+        requires tops { AreTops self.now stretch.now tops.now }
+        ensures { IsFalse result → (score in_column : ℕ) → IsScore stretch.now.slope (stretch.now.from +ℤ pos more) depth
+            self.now.boxes self.now.gutters self.now.alive score in_column → score < needed }
+    {
+        let (more, further) = (more as usize, more as usize + depth as usize);
+        if ((tops.each[more] + tops.each[further]) as u64) < needed {
+            return false;
+        }
+        for part in 0..MOST_PARTS {
+            if (tops.parts[part][more] + tops.parts[part][further]) as u64 >= needed {
+                return true;
+            }
+        }
+        false
     }
 }

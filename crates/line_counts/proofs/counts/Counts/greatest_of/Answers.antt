@@ -1,4 +1,4 @@
-use Rattle.std.proofs.Common.{◌≡◌, ◌+◌, ◌≤◌, ◌+ℤ◌, ◌≤ℤ◌, pos, ℕ, ℤ, get_or, to_z, of_z, w8, w16, arith, subst, sym, ◌∙◌}
+use Rattle.std.proofs.Common.{◌≡◌, ◌+◌, ◌≤◌, ◌+ℤ◌, ◌≤ℤ◌, pos, ℕ, ℤ, to_z, of_z, w8, w16, arith, subst, sym, ◌∙◌}
 use Rattle.std.proofs.lemmas.Int.{ints}
 use Rattle.box_search.specs.Search.{IsGreatestKey}
 use Rattle.line_counts.specs.Stretches.{IsKeyAt, IsGreaterKey}
@@ -6,7 +6,7 @@ use Rattle.line_counts.proofs.Places.{held_slope, held_offset}
 use Rattle.line_counts.proofs.Joining.{IsKeyAmong, no_depth, depth_more, depth_all, max_since}
 use Rattle.line_counts.proofs.Passing.{line_passed, offset_passed}
 use Rattle.line_counts.proofs.counts.Counts.greatest_of.Goals as goal
-use Rattle.line_counts.proofs.counts.Counts.greatest_of.Goals.{then-bound-needed, else-bound-needed}
+use Rattle.line_counts.proofs.counts.Counts.greatest_of.Goals.{then-can_score, else-can_score}
 
 high_row : (from : ℤ) (count height : ℕ) → (from +ℤ pos count) ≤ℤ pos (height + 300 + 1) → height ≤ 8192 → (from +ℤ pos count) ≤ℤ pos 8493
 high_row from count height high page = omega (arith, ints)
@@ -29,8 +29,8 @@ loop-depth-preserved c =
     let best = c.loop-depth.best in
     let offset : ℤ = stretch.from +ℤ pos more in
     let deep : depth ≤ stretch.deepest = omega (arith, c.loop-depth-test.true, c.loop-depth.auto.depth-end) in
-    elim c.if-bound-needed.branch [
-      | then-bound-needed w ↦
+    elim c.if-can_score.branch [
+      | then-can_score w ↦
           let held : to_z w16 (of_z w16 w.offset_of.result) ≡ offset =
           held_offset w.offset_of.result stretch.from more stretch.offsets w.offset_of.ensures c.requires.of_page.low
           (high_row stretch.from stretch.offsets c.args.self.now.height c.requires.of_page.high c.requires.of_page.page) c.requires.more
@@ -41,11 +41,11 @@ loop-depth-preserved c =
           subst (λ (key : ℕ). IsGreaterKey (IsKeyAmong c.args.self.now c.args.least stretch.slope offset stretch.shallowest (depth + 1)) c.args.before key) (sym w.best-is)
           (depth_more c.args.self.now c.args.least stretch.slope offset stretch.shallowest depth c.args.before best w.max-best.result c.loop-depth.auto.depth c.loop-depth.invariant
           (max_since (IsKeyAt c.args.self.now c.args.least stretch.slope offset depth) best w.key_at.result w.max-best.result w.max-best.ensures exact))
-      | else-bound-needed w ↦
+      | else-can_score w ↦
           subst (λ (key : ℕ). IsGreaterKey (IsKeyAmong c.args.self.now c.args.least stretch.slope offset stretch.shallowest (depth + 1)) c.args.before key) (sym w.best-is)
           (depth_more c.args.self.now c.args.least stretch.slope offset stretch.shallowest depth c.args.before best best c.loop-depth.auto.depth c.loop-depth.invariant
-          (line_passed c.args.self.now c.args.least best (get_or c.args.tops.now.each more 0 + get_or c.args.tops.now.each (more + depth) 0) c.needed-in-loop-depth.result stretch.slope offset c.needed-in-loop-depth.ensures (omega (arith, w.if-bound-needed)) depth
-          (λ score in_column scored. c.requires.tops.scores more depth score in_column c.requires.more deep scored)))
+          (line_passed c.args.self.now c.args.least best c.needed-in-loop-depth.result stretch.slope offset c.needed-in-loop-depth.ensures depth
+          (λ score in_column scored. c.can_score.ensures w.if-can_score.false score in_column scored)))
     ]
 
 pub returns : goal.returns

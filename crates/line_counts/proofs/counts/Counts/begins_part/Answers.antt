@@ -4,10 +4,10 @@ use Rattle.line_quality.specs.Points.{Crosses, middle_of}
 use Rattle.line_counts.specs.Fits.{segment_of}
 use Rattle.line_counts.specs.Table.{LivingPage}
 use Rattle.line_counts.proofs.Bounding.{columns_differ, is_cut}
-use Rattle.line_counts.proofs.counts.Counts.is_cut_before.Goals as goal
+use Rattle.line_counts.proofs.counts.Counts.begins_part.Goals as goal
 
-pub returns-then-crosses_all : goal.returns-then-crosses_all
-returns-then-crosses_all c =
+pub returns-then-crosses_all-clause-cut : goal.returns-then-crosses_all-clause-cut
+returns-then-crosses_all-clause-cut c =
     let page : LivingPage = c.args.self.now in
     let stretch = c.args.stretch.now in
     let gutters : List Rect = page.gutters in

@@ -1,5 +1,5 @@
 use Rattle.std.proofs.Common.{◌≤◌}
-use Rattle.line_counts.proofs.counts.Counts.is_cut_before.Given as goal
+use Rattle.line_counts.proofs.counts.Counts.begins_part.Given as goal
 
 abbrev pub invariant-loop-gutter : goal.invariant-loop-gutter
 invariant-loop-gutter l = l.gutter-index ≤ l.gutter-index-end
