@@ -2,21 +2,13 @@
 use Rattle.std.proofs.Common.{◌≡◌, ℕ, ◌+◌, ◌<◌, ◌≤◌, ◌⊎◌, inl, inr, ⊎_elim, max, ℤ, pos, ◌+ℤ◌, ◌<ℤ◌, arith, refl, sym, subst}
 use Rattle.std.proofs.lemmas.Int.{ints, by_lt_z}
 use Rattle.std.proofs.lemmas.Bool.{cases_lt}
-use Rattle.box_search.specs.Search.{IsGreatestKey, IsSound}
+use Rattle.box_search.specs.Search.{IsGreatestKey}
 use Rattle.line_quality.specs.Keys.{line_key}
 use Rattle.line_quality.specs.Scores.{IsScore}
 use Rattle.line_quality.specs.ScoreLaws.{same_score}
 use Rattle.line_counts.specs.Table.{LivingPage}
-use Rattle.line_counts.specs.Stretches.{IsKeyAt, IsKeyOf, IsKeyIn}
+use Rattle.line_counts.specs.Stretches.{IsKeyAt, IsKeyOf, IsKeyIn, IsGreaterKey}
 use Rattle.line_counts.specs.declared.stretch.Stretch.{Stretch}
-
--- the same keys have the same greatest one
-pub renamed : (P Q : ℕ → Type 0) (key : ℕ) → ((k : ℕ) → P k → Q k) → ((k : ℕ) → Q k → P k) → IsGreatestKey P key → IsGreatestKey Q key
-renamed P Q key to from is = record {
-  sound = ⊎_elim (λ (none : key ≡ 0). inl none) (λ (some : P key). inr (to key some)) is.sound;
-  greatest = λ k some. is.greatest k (from k some);
-  none = λ zero k some. is.none zero k (from k some);
-}
 
 -- no key is there
 pub no_key : (P : ℕ → Type 0) → ((k : ℕ) → P k → ⊥) → IsGreatestKey P 0
@@ -34,24 +26,58 @@ one_key P key positive some only = record {
   none = λ zero. absurd (omega (arith, zero, positive));
 }
 
-sound_max : (P Q R : ℕ → Type 0) (a b : ℕ) → ((k : ℕ) → P k → R k) → ((k : ℕ) → Q k → R k) → IsSound P a → IsSound Q b → IsSound R (max a b)
-sound_max P Q R a b first second p q = ⊎_elim
-    (λ less. let is : b ≡ max a b = omega (arith, less) in subst (IsSound R) is (⊎_elim (λ (none : b ≡ 0). inl none) (λ (some : Q b). inr (second b some)) q))
-    (λ more. let is : a ≡ max a b = omega (arith, more) in subst (IsSound R) is (⊎_elim (λ (none : a ≡ 0). inl none) (λ (some : P a). inr (first a some)) p))
-    (cases_lt a b)
+-- the same keys have the same greatest one beside the one before
+pub renamed_since : (P Q : ℕ → Type 0) (before key : ℕ) → ((k : ℕ) → P k → Q k) → ((k : ℕ) → Q k → P k) → IsGreaterKey P before key → IsGreaterKey Q before key
+renamed_since P Q before key to from is = record {
+  from = ⊎_elim (λ (same : key ≡ before). inl same) (λ (some : P key). inr (to key some)) is.from;
+  no_less = is.no_less;
+  greatest = λ k some. is.greatest k (from k some);
+}
+
+-- no key is greater
+pub none_since : (P : ℕ → Type 0) (before : ℕ) → ((k : ℕ) → P k → (0 < before) × (k ≤ before)) → IsGreaterKey P before before
+none_since P before passed = record { from = inl refl; no_less = omega arith; greatest = passed }
+
+-- the greater of the two
+pub max_since : (P : ℕ → Type 0) (before key word : ℕ) → word ≡ max key before → IsGreatestKey P key → IsGreaterKey P before word
+max_since P before key word is exact = record {
+  from = ⊎_elim
+      (λ less. inl (omega (arith, is, less)))
+      (λ more. ⊎_elim
+      (λ (none : key ≡ 0). inl (omega (arith, is, none)))
+      (λ (some : P key). let same : key ≡ word = omega (arith, is, more) in inr (subst P same some))
+      exact.sound)
+      (cases_lt key before);
+  no_less = omega (arith, is);
+  greatest = λ k some. ⊎_elim
+      (λ (none : key < 1). absurd (exact.none (omega (arith, none)) k some))
+      (λ positive. (omega (arith, is, positive), omega (arith, is, exact.greatest k some)))
+      (cases_lt key 1);
+}
+
+-- the greatest key, where there was none before
+pub from_none : (P : ℕ → Type 0) (key : ℕ) → IsGreaterKey P 0 key → IsGreatestKey P key
+from_none P key is = record {
+  sound = is.from;
+  greatest = λ k some. (is.greatest k some).1;
+  none = λ zero k some. omega (arith, zero, (is.greatest k some).0);
+}
 
 -- the keys of both are there
-pub both_keys : (P Q R : ℕ → Type 0) (a b c : ℕ) → c ≡ max a b → ((k : ℕ) → P k → R k) → ((k : ℕ) → Q k → R k) → ((k : ℕ) → R k → P k ⊎ Q k)
-    → IsGreatestKey P a → IsGreatestKey Q b → IsGreatestKey R c
-both_keys P Q R a b c is first second apart p q = record {
-  sound = subst (IsSound R) (sym is) (sound_max P Q R a b first second p.sound q.sound);
+pub both_since : (P Q R : ℕ → Type 0) (a b c : ℕ) → ((k : ℕ) → P k → R k) → ((k : ℕ) → Q k → R k) → ((k : ℕ) → R k → Q k ⊎ P k)
+    → IsGreaterKey P a b → IsGreaterKey Q b c → IsGreaterKey R a c
+both_since P Q R a b c first second apart p q = record {
+  from = ⊎_elim
+      (λ (same : c ≡ b). ⊎_elim
+      (λ (kept : b ≡ a). inl (omega (arith, same, kept)))
+      (λ (some : P b). inr (first c (subst P (sym same) some)))
+      p.from)
+      (λ (some : Q c). inr (second c some))
+      q.from;
+  no_less = omega (arith, p.no_less, q.no_less);
   greatest = λ k some. ⊎_elim
-      (λ (here : P k). omega (arith, is, p.greatest k here))
-      (λ (there : Q k). omega (arith, is, q.greatest k there))
-      (apart k some);
-  none = λ zero k some. ⊎_elim
-      (λ (here : P k). p.none (omega (arith, is, zero)) k here)
-      (λ (there : Q k). q.none (omega (arith, is, zero)) k there)
+      (λ (there : Q k). q.greatest k there)
+      (λ (here : P k). let is = p.greatest k here in (omega (arith, is.0, q.no_less), omega (arith, is.1, q.no_less)))
       (apart k some);
 }
 
@@ -76,8 +102,8 @@ pub record IsKeyAmong (page : LivingPage) (least : ℕ) (slope offset : ℤ) (fr
   pub at : IsKeyAt page least slope offset depth key
 
 module _ (page : LivingPage) (least : ℕ) (slope offset : ℤ) (from : ℕ) where
-  pub no_depth : IsGreatestKey (IsKeyAmong page least slope offset from from) 0
-  no_depth = no_key (IsKeyAmong page least slope offset from from) (λ k among. omega (arith, among.from_depth, among.to_depth))
+  pub no_depth : (before : ℕ) → IsGreaterKey (IsKeyAmong page least slope offset from from) before before
+  no_depth before = none_since (IsKeyAmong page least slope offset from from) before (λ k among. absurd (omega (arith, among.from_depth, among.to_depth)))
 
   among_cases : (to key : ℕ) → IsKeyAmong page least slope offset from (to + 1) key → IsKeyAt page least slope offset to key ⊎ IsKeyAmong page least slope offset from to key
   among_cases to key among = ⊎_elim
@@ -86,18 +112,18 @@ module _ (page : LivingPage) (least : ℕ) (slope offset : ℤ) (from : ℕ) whe
       (cases_lt among.depth to)
 
   -- one more depth
-  pub depth_more : (to key best more : ℕ) → from ≤ to → more ≡ max key best → IsGreatestKey (IsKeyAt page least slope offset to) key
-      → IsGreatestKey (IsKeyAmong page least slope offset from to) best → IsGreatestKey (IsKeyAmong page least slope offset from (to + 1)) more
-  depth_more to key best more low is here before =
-      both_keys (IsKeyAt page least slope offset to) (IsKeyAmong page least slope offset from to) (IsKeyAmong page least slope offset from (to + 1)) key best more is
-      (λ k at. record { depth = to; from_depth = low; to_depth = omega arith; at = at })
+  pub depth_more : (to before best more : ℕ) → from ≤ to → IsGreaterKey (IsKeyAmong page least slope offset from to) before best
+      → IsGreaterKey (IsKeyAt page least slope offset to) best more → IsGreaterKey (IsKeyAmong page least slope offset from (to + 1)) before more
+  depth_more to before best more low =
+      both_since (IsKeyAmong page least slope offset from to) (IsKeyAt page least slope offset to) (IsKeyAmong page least slope offset from (to + 1)) before best more
       (λ k among. record { depth = among.depth; from_depth = among.from_depth; to_depth = omega (arith, among.to_depth); at = among.at })
-      (among_cases to) here before
+      (λ k at. record { depth = to; from_depth = low; to_depth = omega arith; at = at })
+      (among_cases to)
 
   -- all depths
-  pub depth_all : (to deepest key : ℕ) → to ≡ deepest + 1 → IsGreatestKey (IsKeyAmong page least slope offset from to) key → IsGreatestKey (IsKeyOf page least slope offset from deepest) key
-  depth_all to deepest key last all =
-      renamed (IsKeyAmong page least slope offset from to) (IsKeyOf page least slope offset from deepest) key
+  pub depth_all : (to deepest before key : ℕ) → to ≡ deepest + 1 → IsGreaterKey (IsKeyAmong page least slope offset from to) before key → IsGreaterKey (IsKeyOf page least slope offset from deepest) before key
+  depth_all to deepest before key last all =
+      renamed_since (IsKeyAmong page least slope offset from to) (IsKeyOf page least slope offset from deepest) before key
       (λ k among. record { depth = among.depth; from_depth = among.from_depth; to_depth = omega (arith, last, among.to_depth); at = among.at })
       (λ k of. record { depth = of.depth; from_depth = of.from_depth; to_depth = omega (arith, last, of.to_depth); at = of.at })
       all
@@ -106,12 +132,16 @@ module _ (page : LivingPage) (least : ℕ) (slope offset : ℤ) (from : ℕ) whe
 abbrev pub first_of : Stretch → ℕ → Stretch
 first_of stretch count = record stretch { offsets = count }
 
+-- so many offsets behind the first ones
+abbrev pub part_behind : Stretch → ℕ → ℕ → Stretch
+part_behind stretch n count = record stretch { from = stretch.from +ℤ pos n; offsets = count }
+
 one_further : (offset from : ℤ) (n : ℕ) → offset <ℤ (from +ℤ pos (n + 1)) → (offset <ℤ (from +ℤ pos n)) ⊎ (offset ≡ from +ℤ pos n)
 one_further offset from n h = by_lt_z offset (from +ℤ pos n) (λ less. inl less) (λ more. inr (omega (arith, ints, h, more)))
 
 module _ (page : LivingPage) (least : ℕ) (stretch : Stretch) where
-  pub no_offset : IsGreatestKey (IsKeyIn page least (first_of stretch 0)) 0
-  no_offset = no_key (IsKeyIn page least (first_of stretch 0)) (λ k is. omega (arith, ints, is.from_offset, is.to_offset))
+  pub no_offset : (before : ℕ) → IsGreaterKey (IsKeyIn page least (first_of stretch 0)) before before
+  no_offset before = none_since (IsKeyIn page least (first_of stretch 0)) before (λ k is. absurd (omega (arith, ints, is.from_offset, is.to_offset)))
 
   in_cases : (n key : ℕ) → IsKeyIn page least (first_of stretch (n + 1)) key
       → IsKeyOf page least stretch.slope (stretch.from +ℤ pos n) stretch.shallowest stretch.deepest key ⊎ IsKeyIn page least (first_of stretch n) key
@@ -121,14 +151,30 @@ module _ (page : LivingPage) (least : ℕ) (stretch : Stretch) where
       (one_further is.offset stretch.from n is.to_offset)
 
   -- one more offset
-  pub offset_more : (n key best more : ℕ) → more ≡ max key best → IsGreatestKey (IsKeyOf page least stretch.slope (stretch.from +ℤ pos n) stretch.shallowest stretch.deepest) key
-      → IsGreatestKey (IsKeyIn page least (first_of stretch n)) best → IsGreatestKey (IsKeyIn page least (first_of stretch (n + 1))) more
-  offset_more n key best more is here before =
-      both_keys (IsKeyOf page least stretch.slope (stretch.from +ℤ pos n) stretch.shallowest stretch.deepest) (IsKeyIn page least (first_of stretch n)) (IsKeyIn page least (first_of stretch (n + 1))) key best more is
-      (λ k of. record { offset = stretch.from +ℤ pos n; from_offset = omega (arith, ints); to_offset = omega (arith, ints); of = of })
+  pub offset_more : (n before best more : ℕ) → IsGreaterKey (IsKeyIn page least (first_of stretch n)) before best
+      → IsGreaterKey (IsKeyOf page least stretch.slope (stretch.from +ℤ pos n) stretch.shallowest stretch.deepest) best more
+      → IsGreaterKey (IsKeyIn page least (first_of stretch (n + 1))) before more
+  offset_more n before best more =
+      both_since (IsKeyIn page least (first_of stretch n)) (IsKeyOf page least stretch.slope (stretch.from +ℤ pos n) stretch.shallowest stretch.deepest) (IsKeyIn page least (first_of stretch (n + 1))) before best more
       (λ k in_it. record { offset = in_it.offset; from_offset = in_it.from_offset; to_offset = omega (arith, ints, in_it.to_offset); of = in_it.of })
-      (in_cases n) here before
+      (λ k of. record { offset = stretch.from +ℤ pos n; from_offset = omega (arith, ints); to_offset = omega (arith, ints); of = of })
+      (in_cases n)
+
+  part_cases : (n count key : ℕ) → IsKeyIn page least (first_of stretch (n + count)) key → IsKeyIn page least (part_behind stretch n count) key ⊎ IsKeyIn page least (first_of stretch n) key
+  part_cases n count key is = by_lt_z is.offset (stretch.from +ℤ pos n)
+      (λ less. inr (record { offset = is.offset; from_offset = is.from_offset; to_offset = less; of = is.of }))
+      (λ more. inl (record { offset = is.offset; from_offset = omega (arith, ints, more); to_offset = omega (arith, ints, is.to_offset); of = is.of }))
+
+  -- one more part
+  pub part_more : (n count before best more : ℕ) → IsGreaterKey (IsKeyIn page least (first_of stretch n)) before best
+      → IsGreaterKey (IsKeyIn page least (part_behind stretch n count)) best more
+      → IsGreaterKey (IsKeyIn page least (first_of stretch (n + count))) before more
+  part_more n count before best more =
+      both_since (IsKeyIn page least (first_of stretch n)) (IsKeyIn page least (part_behind stretch n count)) (IsKeyIn page least (first_of stretch (n + count))) before best more
+      (λ k in_it. record { offset = in_it.offset; from_offset = in_it.from_offset; to_offset = omega (arith, ints, in_it.to_offset); of = in_it.of })
+      (λ k in_it. record { offset = in_it.offset; from_offset = omega (arith, ints, in_it.from_offset); to_offset = omega (arith, ints, in_it.to_offset); of = in_it.of })
+      (part_cases n count)
 
   -- all offsets
-  pub offset_all : (n key : ℕ) → n ≡ stretch.offsets → IsGreatestKey (IsKeyIn page least (first_of stretch n)) key → IsGreatestKey (IsKeyIn page least stretch) key
-  offset_all n key last all = subst (λ (k : ℕ). IsGreatestKey (IsKeyIn page least (first_of stretch k)) key) last all
+  pub offset_all : (n before key : ℕ) → n ≡ stretch.offsets → IsGreaterKey (IsKeyIn page least (first_of stretch n)) before key → IsGreaterKey (IsKeyIn page least stretch) before key
+  offset_all n before key last all = subst (λ (k : ℕ). IsGreaterKey (IsKeyIn page least (first_of stretch k)) before key) last all

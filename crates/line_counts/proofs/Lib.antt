@@ -6,6 +6,8 @@ pub mod Weighing
 pub mod Rows
 pub mod Segments
 pub mod Joining
+pub mod Bounding
+pub mod Passing
 pub mod Renewing
 pub mod Spans
 pub mod Covering

@@ -39,6 +39,9 @@ held_in_grid s in_grid = omega (arith, ints, in_grid.low, in_grid.high)
 pub held_offset : (s from : ℤ) (n count : ℕ) → s ≡ from +ℤ pos n → negsuc 299 ≤ℤ from → (from +ℤ pos count) ≤ℤ pos 8493 → n < count → to_z w16 (of_z w16 s) ≡ s
 held_offset s from n count is low high less = omega (arith, ints)
 
+pub held_behind : (s from : ℤ) (n : ℕ) → s ≡ from +ℤ pos n → negsuc 299 ≤ℤ from → (from +ℤ pos n) ≤ℤ pos 8555 → to_z w16 (of_z w16 s) ≡ s
+held_behind s from n is low high = omega (arith, ints)
+
 -- what holds of a slope, or of an offset, holds of it as the code holds it
 pub at_slope : (P : ℤ → Type 0) (s : ℤ) → to_z w8 (of_z w8 s) ≡ s → P s → P (to_z w8 (of_z w8 s))
 at_slope P s same holds = subst P (sym same) holds

@@ -13,17 +13,16 @@ pub record IsReadRow (page : LivingPage) (width : ℕ) (cells : List ℕ) (slope
   pub numbered : number < 65
   pub slope_is : slope_of number ≡ slope
   pub above : negsuc 299 ≤ℤ offset
-  pub below : offset ≤ℤ pos (page.height + 300)
-  pub shallow : depth ≤ 63
+  pub below : (offset +ℤ pos depth) ≤ℤ pos (page.height + 300 + 63)
   pub few : segment ≤ length page.gutters
   pub begins : from ≡ cell_of (length page.gutters + 1) width number segment (first_place offset)
 
 module _ (page : LivingPage) (width : ℕ) (cells : List ℕ) (slope offset : ℤ) (depth segment number from : ℕ) (row : IsReadRow page width cells slope offset depth segment number from) (behind : ℕ) (near : behind < 8 + depth + 1) where
-  first_is : first_place offset ≤ page.height + 600
+  first_is : first_place offset + depth ≤ page.height + 663
   first_is = omega (arith, ints, abs_parts (offset +ℤ pos 300), row.above, row.below)
 
   place_inside : first_place offset + behind < width
-  place_inside = omega (arith, first_is, near, row.shallow, row.table.wide.lines)
+  place_inside = omega (arith, first_is, near, row.table.wide.lines)
 
   cell_is : from + behind ≡ cell_of (length page.gutters + 1) width number segment (first_place offset + behind)
   cell_is = omega (arith, row.begins)

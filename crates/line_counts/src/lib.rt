@@ -15,6 +15,7 @@ mod stretch;
 mod table;
 #[cfg(test)]
 mod tests;
+mod tops;
 
 pub use best::Best;
 pub use counts::Counts;

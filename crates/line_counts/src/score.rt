@@ -1,5 +1,5 @@
 //! Scores that come from the counts alone.
-ghost use Rattle.std.specs.Prelude.{◌≡◌, ◌+◌, ◌*◌, ◌≤◌, pos, ◌≤ℤ◌, length};
+ghost use Rattle.std.specs.Prelude.{◌≡◌, ◌+◌, ◌*◌, ◌≤◌, pos, ◌+ℤ◌, ◌≤ℤ◌, length};
 ghost use Rattle.line_quality.specs.Points.{IsSlope, IsOffset};
 ghost use Rattle.line_quality.specs.Scores.{IsScore};
 ghost use Rattle.line_counts.specs.Fits;
@@ -26,11 +26,10 @@ fn weight_behind(depth: u8, behind: usize) -> u32
 
 impl Counts {
     /// The counts of the places in a segment that weigh something for a line.
-    fn row(&self, slope: i8, offset: i16, depth: u8, of_segment: usize) -> &[u16]
+    pub(crate) fn row(&self, slope: i8, offset: i16, depth: u8, of_segment: usize) -> &[u16]
         requires slope { IsSlope slope }
         requires low { LEAST_OFFSET ≤ℤ offset }
-        requires high { offset ≤ℤ pos (self.now.height + OFFSET_MARGIN) }
-        requires depth { depth ≤ MAX_DEPTH }
+        requires high { (offset +ℤ pos depth) ≤ℤ pos (self.now.height + OFFSET_MARGIN + MAX_DEPTH) }
         requires segment { of_segment ≤ length self.now.gutters }
         ensures { IsRow self.now slope offset depth of_segment result.now }
     {

@@ -1,7 +1,13 @@
-use Rattle.box_search.specs.Search.{IsGreatestKey}
-use Rattle.line_counts.specs.Stretches.{IsKeyIn}
+use Rattle.std.proofs.Common.{◌-◌, ◌≤◌}
+use Rattle.line_counts.specs.Stretches.{IsKeyIn, IsGreaterKey}
 use Rattle.line_counts.proofs.Joining.{first_of}
 use Rattle.line_counts.proofs.counts.Counts.greatest.Given as goal
 
-abbrev pub invariant-loop-more : goal.invariant-loop-more
-invariant-loop-more l = IsGreatestKey (IsKeyIn l.self l.least (first_of l.stretch l.more)) l.best
+abbrev pub decreases-loop-done : goal.decreases-loop-done
+decreases-loop-done l = l.stretch.offsets - l.done
+
+abbrev pub invariant-loop-done : goal.invariant-loop-done
+invariant-loop-done l = record {
+  within : l.done ≤ l.stretch.offsets;
+  exact : IsGreaterKey (IsKeyIn l.self l.least (first_of l.stretch l.done)) 0 l.best;
+}
