@@ -1,5 +1,5 @@
 //! The searches of small tables by one thread against their greatest keys.
-use super::MOST;
+use super::{BELOW, MOST, RIGHT};
 use crate::{RefusesOnce, Table, Watched};
 use box_search::{Alone, FromFn, Noted, Searcher, Space};
 use layout_limits::OutOfMemory;
@@ -43,6 +43,24 @@ fn greatest_key_of_every_small_table(rt: HostRuntime) -> Result<(), Fail> {
             compare(&rt, rt.alloc(), &Table::new(&keys[..places.min(4)]))?;
         }
     }
+    Ok(())
+}
+
+// The search of two keys opens the root and then the greater of its parts; where nothing is open it opens nothing.
+#[test]
+fn search_within_so_many_boxes(rt: HostRuntime) -> Result<(), Fail> {
+    let keys = Table::new(&[BELOW, RIGHT]);
+    for (boxes, found) in [(0, None), (1, None), (2, Some(RIGHT)), (200, Some(RIGHT))] {
+        assert_eq!(rt;
+            Alone.best_within(rt.alloc(), &keys, boxes)?,
+            found,
+            "{boxes}"
+        );
+    }
+    assert_eq!(rt;
+        Alone.best_within(rt.alloc(), &Table::new(&[]), 0)?,
+        Some(0)
+    );
     Ok(())
 }
 
