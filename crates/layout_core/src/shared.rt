@@ -18,8 +18,8 @@ use std::sync::Wait;
 use std::thread::Threads;
 use whitespace_cover::White;
 
-/// How many boxes of a search are opened before workers are asked for. Nearly all searches of a page end sooner, and
-/// to begin threads and join them costs more than such a search; the first rectangle of an ordinary page does not.
+/// How many boxes of a search are opened before workers are asked for. Most searches of a page end sooner, and to begin
+/// threads and join them costs more than such a search.
 const HEAD_START: u32 = 200;
 
 /// The greatest admitted key, or 0 exactly where no key is admitted: found on this thread where it is to be one worker or
