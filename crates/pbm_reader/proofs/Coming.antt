@@ -1,10 +1,11 @@
 -- What comes next of a source that is read within a limit.
-use Rattle.std.proofs.Common.{◌≡◌, ℕ, zero, suc, ◌<◌, true, List, [], ◌∷◌, ◌++◌, take, drop, Option, Some, None, Result, Ok, Err, refl, sym, ap, subst, ◌∙◌, append_assoc, take-append-drop, arith}
-use Rattle.std.specs.Prelude.{option_map, IfOk, IfSome, OnErr}
+use Rattle.std.proofs.Common.{◌≡◌, ℕ, zero, suc, ◌<◌, ◌==◌, ◌||◌, Bool, true, false, List, [], ◌∷◌, ◌++◌, take, drop, Option, Some, None, Result, Ok, Err, refl, sym, ap, subst, ◌∙◌, append_assoc, take-append-drop, arith, rules}
+use Rattle.std.specs.Prelude.{option_map, is_some, IfOk, IfSome, IfNone, IsTrue, OnErr}
 use Rattle.std.specs.Io.KnownBytes.{prepend_known, IsAtEnd}
 use Rattle.layout_outside.specs.Views.{SourceView}
-use Rattle.layout_outside.specs.Taken.{Took}
-use Rattle.pbm_reader.specs.Feed.{PieceView, seen, unseen, is_limited, whole}
+use Rattle.layout_outside.specs.Taken.{HasEnded, Took}
+use Rattle.pbm_reader.specs.Feed.{PieceView, seen, unseen, is_limited, whole, with_unread}
+use Rattle.pbm_reader.proofs.Taken.{prepend_nothing}
 
 -- what is seen, and what is not
 pub join : Option (List ℕ) → Option (List ℕ) → Option (List ℕ)
@@ -59,7 +60,44 @@ piece_coming old new room source later bytes limit more took same =
     (subst (λ (o : Option ℕ). P o (Some r.0)) limit (subst (λ (n : Option ℕ). P old.room n) r.1 took))
     (subst (λ (o : Option ℕ). Q o (Some r.0)) limit (subst (λ (n : Option ℕ). Q old.room n) r.1 same))
 
+-- a byte that a piece with nothing unread takes is one of the source
+pub byte_taken : (next : Option ℕ) (old new : PieceView) (room : ℕ) (source later : SourceView) → IsTrue (is_some next) → old.room ≡ Some room → is_limited new.room ≡ is_limited old.room
+    → unseen new.room later ≡ unseen old.room source → old.unread ≡ [] → new.unread ≡ [] → IfSome next (λ byte. Took (whole old source) (whole new later) (byte ∷ []))
+    → (byte : ℕ) × Took source later (byte ∷ [])
+byte_taken None old new room source later some limit more same first last took = absurd cc
+byte_taken (Some byte) old new room source later some limit more same first last took =
+    let nothing : (u : List ℕ) (o : Option (List ℕ)) → u ≡ [] → prepend_known u o ≡ o = λ u o e. ap (λ (l : List ℕ). prepend_known l o) e ∙ sym (prepend_nothing o) in (
+      byte,
+      sym (nothing old.unread source.left first)
+          ∙ piece_coming old new room source later (byte ∷ []) limit more took same
+          ∙ ap (λ (k : Option (List ℕ)). prepend_known (byte ∷ []) k) (nothing new.unread later.left last),
+    )
+
+-- where a source is seen to end though more might be read, it has answered its end
+pub piece_ended : (piece : PieceView) (room : ℕ) (source : SourceView) → piece.room ≡ Some room → 0 < room → HasEnded (whole piece source) → (piece.unread ≡ []) × HasEnded source
+piece_ended piece room source limit some e =
+    let P : Option ℕ → Type 0 = λ r. HasEnded (with_unread piece.unread (seen r source)) in
+    by_unread piece.unread (subst P limit e)
+  where
+    behind : (a b : Bool) → a ≡ false → (a || b) ≡ true → b ≡ true
+    behind a b none e = cc
+
+    by_unread : (unread : List ℕ) → HasEnded (with_unread unread (seen (Some room) source)) → (unread ≡ []) × HasEnded source
+    by_unread (byte ∷ unread) e = absurd (not_both e.answered)
+      where
+        not_both : false ≡ true → ⊥
+        not_both e = cc
+    by_unread [] e =
+        let more : (room == 0) ≡ false = search (rules, some) in
+        let told = prepend_nothing (seen (Some room) source).left in
+        (refl, record { nothing = seen_end room source.left some (subst IsAtEnd (sym told) e.nothing); answered = behind (room == 0) source.ended more e.answered })
+
 -- ---- answers
+
+pub none_map : {T E : Type 0} (r : Result (Option T) E) (P Q R : Type 0) → (P → Q → R) → IfOk r (λ o. IfNone o P) → IfOk r (λ o. IfNone o Q) → IfOk r (λ o. IfNone o R)
+none_map (Ok (Some x)) P Q R f p q = tt
+none_map (Ok None) P Q R f p q = f p q
+none_map (Err e) P Q R f p q = tt
 
 pub next_map : {T E : Type 0} (r : Result (Option T) E) (P Q : T → Type 0) → ((x : T) → P x → Q x) → IfOk r (λ o. IfSome o P) → IfOk r (λ o. IfSome o Q)
 next_map (Ok (Some x)) P Q f p = f x p

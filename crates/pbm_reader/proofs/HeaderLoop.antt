@@ -120,23 +120,23 @@ other_fault fault at (inl f) e = cc
 other_fault fault at (inr (inl f)) e = cc
 other_fault fault at (inr (inr f)) e = cc
 
-in_header : (fault : PageFault) (at : ℕ) → (fault ≡ faults.Magic at) ⊎ ((fault ≡ faults.Header at) ⊎ (fault ≡ faults.Truncated at)) → IsOfHeader fault
-in_header fault at (inl f) = subst IsOfHeader (sym f) tt
-in_header fault at (inr (inl f)) = subst IsOfHeader (sym f) tt
-in_header fault at (inr (inr f)) = subst IsOfHeader (sym f) tt
+in_header : (fault : PageFault) (at : ℕ) → (fault ≡ faults.Magic at) ⊎ ((fault ≡ faults.Header at) ⊎ (fault ≡ faults.Truncated at)) → at ≤ 65536 → IsOfHeader fault
+in_header fault at (inl f) low = subst IsOfHeader (sym f) low
+in_header fault at (inr (inl f)) low = subst IsOfHeader (sym f) low
+in_header fault at (inr (inr f)) low = subst IsOfHeader (sym f) low
 
-pub wrong_of_header : (state : HeaderState) (at : ℕ) → IsOfHeader (wrong_byte state at)
-wrong_of_header state at =
+pub wrong_of_header : (state : HeaderState) (at : ℕ) → at ≤ 65536 → IsOfHeader (wrong_byte state at)
+wrong_of_header state at low =
     elim (byte_faults state at) [
-      | inl name ↦ in_header (wrong_byte state at) at (inl name.1)
-      | inr behind ↦ in_header (wrong_byte state at) at (inr (inl behind.1))
+      | inl name ↦ in_header (wrong_byte state at) at (inl name.1) low
+      | inr behind ↦ in_header (wrong_byte state at) at (inr (inl behind.1)) low
     ]
 
-pub missing_of_header : (state : HeaderState) (at : ℕ) → IsOfHeader (missing_byte state at)
-missing_of_header state at =
+pub missing_of_header : (state : HeaderState) (at : ℕ) → at ≤ 65536 → IsOfHeader (missing_byte state at)
+missing_of_header state at low =
     elim (byte_faults state at) [
-      | inl name ↦ in_header (missing_byte state at) at (inl name.2)
-      | inr behind ↦ in_header (missing_byte state at) at (inr (inr behind.2))
+      | inl name ↦ in_header (missing_byte state at) at (inl name.2) low
+      | inr behind ↦ in_header (missing_byte state at) at (inr (inr behind.2)) low
     ]
 
 wrong_other : (state : HeaderState) (at : ℕ) → wrong_byte state at ≡ faults.ReadFault → ⊥
@@ -292,11 +292,11 @@ header_taken old new told size form named t s =
 pub size_of_header : (width height : ℕ) (fault : PageFault) → IsSizeFault width height fault → IsOfHeader fault
 size_of_header width height faults.ZeroSize s = tt
 size_of_header width height (faults.TooLarge wide high) s = tt
-size_of_header width height (faults.Magic at) s = tt
-size_of_header width height (faults.Header at) s = tt
+size_of_header width height (faults.Magic at) s = absurd s
+size_of_header width height (faults.Header at) s = absurd s
 size_of_header width height faults.HeaderTooLong s = tt
 size_of_header width height faults.TooManyImages s = absurd s
-size_of_header width height (faults.Truncated at) s = tt
+size_of_header width height (faults.Truncated at) s = absurd s
 size_of_header width height (faults.Pixel at) s = absurd s
 size_of_header width height (faults.Trailing at) s = absurd s
 size_of_header width height faults.InputTooLong s = absurd s

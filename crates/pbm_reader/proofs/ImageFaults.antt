@@ -49,7 +49,7 @@ one_images_fault input f g x y =
 
 -- ---- bytes that spell pages
 
-no_image : BeginsImage [] → ⊥
+pub no_image : BeginsImage [] → ⊥
 no_image i = let b = image_begins [] i in not_nil 80 (52 ∷ b.0) b.1
   where
     not_nil : (x : ℕ) (xs : List ℕ) → [] ≡ x ∷ xs → ⊥

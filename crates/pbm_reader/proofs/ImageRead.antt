@@ -9,7 +9,7 @@ use Rattle.pbm_reader.specs.declared.fault.PageFault.TheVariants as faults
 use Rattle.pbm_reader.specs.declared.form.Form.{Form}
 use Rattle.pbm_reader.specs.declared.form.Form.TheVariants.{Plain, Raw}
 use Rattle.pbm_reader.specs.Spelling.{magic, MayFollow}
-use Rattle.pbm_reader.specs.Fault.{Begins, HasFaultWithin, IsMagicFault, IsInputTooLong, DecidesNothing}
+use Rattle.pbm_reader.specs.Fault.{Begins, HasFaultWithin, HasLowPlace, IsMagicFault, IsInputTooLong, DecidesNothing}
 use Rattle.pbm_reader.specs.Header.{IsNameFault, IsOfHeader, NameFails, TookHeader}
 use Rattle.pbm_reader.specs.Images.{BeginsImage, SpellsIn}
 use Rattle.pbm_reader.specs.Given.{AfterRows}
@@ -122,6 +122,32 @@ name_fails is_first old new (faults.Trailing at) f = absurd f
 name_fails is_first old new faults.TooManyImages f = absurd f
 name_fails is_first old new faults.InputTooLong f = absurd f
 name_fails is_first old new faults.Memory f = absurd f
+
+-- ---- the place of a fault
+
+pub header_low : (fault : PageFault) → IsOfHeader fault → HasLowPlace fault
+header_low (faults.Magic at) h = omega (arith, h)
+header_low (faults.Header at) h = omega (arith, h)
+header_low (faults.Truncated at) h = omega (arith, h)
+header_low (faults.Pixel at) h = absurd h
+header_low (faults.Trailing at) h = absurd h
+header_low fault h = tt
+
+pub raster_low : (old new : SourceView) (form : Form) (width height start : ℕ) (fault : PageFault) → RasterFails old new form width height start fault → HasLowPlace fault
+raster_low old new form width height start (faults.Truncated at) f = f.4
+raster_low old new form width height start (faults.Pixel at) f = let low = f.7 in omega (arith, low)
+raster_low old new form width height start (faults.Magic at) f = absurd f
+raster_low old new form width height start (faults.Header at) f = absurd f
+raster_low old new form width height start (faults.Trailing at) f = absurd f
+raster_low old new form width height start fault f = tt
+
+pub tail_low : (old new : SourceView) (form : Form) (start : ℕ) (fault : PageFault) → TailFails old new form start fault → HasLowPlace fault
+tail_low old new form start (faults.Trailing at) f = let low = f.3 in omega (arith, low)
+tail_low old new form start (faults.Magic at) f = absurd f
+tail_low old new form start (faults.Header at) f = absurd f
+tail_low old new form start (faults.Truncated at) f = absurd f
+tail_low old new form start (faults.Pixel at) f = absurd f
+tail_low old new form start fault f = tt
 
 -- ---- the image
 

@@ -30,3 +30,7 @@ pub mod WholePage
 pub mod ImageRead
 pub mod Coming
 pub mod NextImage
+pub mod WithinLimit
+pub mod NextRead
+pub mod NextCall
+pub mod NextLaws

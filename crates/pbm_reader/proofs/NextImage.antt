@@ -25,13 +25,13 @@ no_count : (pages : List Page) (images : List ℕ) → AreImages pages images �
 no_count [] images e none = e
 no_count (page ∷ pages) images e none = absurd (omega (arith, none))
 
-first_none : (count len : ℕ) (images : List ℕ) → WereImages count len images → count ≡ 0 → images ≡ []
+pub first_none : (count len : ℕ) (images : List ℕ) → WereImages count len images → count ≡ 0 → images ≡ []
 first_none count len images w none = no_count w.pages images w.are_images (w.count_is ∙ none)
 
 fronts : (count len : ℕ) (images bytes : List ℕ) → (w : WereImages count len images) → count < 256 → (BeginsImage bytes → ⊥) → FrontImages (images ++ bytes) w.pages images bytes
 fronts count len images bytes w few none = record { whole = refl; are_images = w.are_images; few = omega (arith, w.count_is, few); most = λ lt. none }
 
-is_zero : (n : ℕ) → (n ≡ 0) ⊎ (0 < n)
+pub is_zero : (n : ℕ) → (n ≡ 0) ⊎ (0 < n)
 is_zero zero = inl refl
 is_zero (suc n) = inr (omega arith)
 
@@ -122,7 +122,7 @@ own_grown bytes rest own is_first (inr o) inside = by_bytes bytes o inside
         named at other (inr m) = absurd (other (head_is x 80 [] m.1.0 m.1.1))
 
 -- an own fault begins no image
-own_none : (bytes : List ℕ) (own : PageFault) (is_first : Bool) → IsOwnFault is_first bytes own → BeginsImage bytes → ⊥
+pub own_none : (bytes : List ℕ) (own : PageFault) (is_first : Bool) → IsOwnFault is_first bytes own → BeginsImage bytes → ⊥
 own_none bytes own is_first (inl o) i = one_name bytes o.1 (image_begins bytes i)
 own_none bytes own is_first (inr o) i = o.1 i
 

@@ -1,11 +1,13 @@
 -- The rows that were given before a fault.
-use Rattle.std.proofs.Common.{◌≡◌, ℕ, ◌+◌, List, [], ◌∷◌, ◌++◌, length, Option, Result, Ok, Err, refl, sym, ap, subst, ◌∙◌, append_assoc, inl, inr, arith}
+use Rattle.std.proofs.Common.{◌≡◌, ℕ, ◌+◌, ◌≤◌, List, [], ◌∷◌, ◌++◌, length, Option, Result, Ok, Err, refl, sym, ap, subst, ◌∙◌, append_assoc, inl, inr, arith}
 use Rattle.std.specs.Prelude.{IfErr}
+use Rattle.std.proofs.lemmas.List.{length-append}
 use Rattle.std.specs.Io.KnownBytes.{prepend_known}
 use Rattle.layout_outside.specs.Views.{SourceView}
 use Rattle.layout_outside.specs.Taken.{Took}
 use Rattle.packed_rows.specs.Page.{IsPageSize}
 use Rattle.pbm_reader.specs.declared.header.Header.{Header}
+use Rattle.pbm_reader.specs.declared.image.Image.{Image}
 use Rattle.pbm_reader.specs.declared.fault.Size.{Size}
 use Rattle.pbm_reader.specs.declared.fault.PageFault.{PageFault}
 use Rattle.pbm_reader.specs.declared.fault.PageFault.TheVariants as faults
@@ -16,6 +18,7 @@ use Rattle.pbm_reader.specs.Raster.{BytesFail, GivenTopRows, TookRaster}
 use Rattle.pbm_reader.specs.Plain.{PixelsFail}
 use Rattle.pbm_reader.specs.Tail.{TailFails}
 use Rattle.pbm_reader.specs.Header.{TookHeader}
+use Rattle.pbm_reader.specs.Reader.{TookImage}
 use Rattle.pbm_reader.proofs.Taken.{took_more, prepend_nothing, prepend_twice}
 
 -- ---- some bytes were taken, and a fault stands behind this offset
@@ -117,28 +120,23 @@ top_rows begun given unchanged old middle new header before empty after fault t 
       top = g.top;
     })
 
--- ---- a feed that begins with nothing unread, and in which bytes may be left
+-- ---- the same rows, seen otherwise
 
-pub top_from : {Sink : Type 0} (begun : Sink → ℕ → ℕ → Sink → Type 0) (given : Sink → List ℕ → Sink → Type 0) (unchanged : Sink → Sink → Type 0) (old new first last : SourceView)
-    (unread : List ℕ) (before after : Sink) (result : Result Size PageFault) → first.left ≡ old.left → last.left ≡ prepend_known unread new.left
-    → IfErr result (AfterFault begun given unchanged first last before after) → IfErr result (AfterFault begun given unchanged old new before after)
-top_from begun given unchanged old new first last unread before after (Ok size) begins ends f = tt
-top_from begun given unchanged old new first last unread before after (Err fault) begins ends (inl stays) = inl stays
-top_from begun given unchanged old new first last unread before after (Err fault) begins ends (inr t) =
-    let bytes = t.header ++ (t.raster ++ t.rest) in
-    let more : bytes ++ unread ≡ t.header ++ (t.raster ++ (t.rest ++ unread)) =
-    append_assoc t.header (t.raster ++ t.rest) unread ∙ ap (λ (l : List ℕ). t.header ++ l) (append_assoc t.raster t.rest unread) in
+-- behind what was taken stands more that was dropped
+pub after_moved : {Sink : Type 0} (begun : Sink → ℕ → ℕ → Sink → Type 0) (given : Sink → List ℕ → Sink → Type 0) (unchanged : Sink → Sink → Type 0) (old new first last : SourceView)
+    (more : List ℕ) (before after : Sink) (fault : PageFault) → ((bytes : List ℕ) → Took first last bytes → Took old new (bytes ++ more))
+    → AfterFault begun given unchanged first last before after fault → AfterFault begun given unchanged old new before after fault
+after_moved begun given unchanged old new first last more before after fault moves (inl stays) = inl stays
+after_moved begun given unchanged old new first last more before after fault moves (inr t) =
+    let all : (t.header ++ (t.raster ++ t.rest)) ++ more ≡ t.header ++ (t.raster ++ (t.rest ++ more)) =
+    append_assoc t.header (t.raster ++ t.rest) more ∙ ap (λ (l : List ℕ). t.header ++ l) (append_assoc t.raster t.rest more) in
     inr (record {
       form = t.form;
       page = t.page;
       header = t.header;
       raster = t.raster;
-      rest = t.rest ++ unread;
-      took = sym begins
-          ∙ t.took
-          ∙ ap (λ (k : Option (List ℕ)). prepend_known bytes k) ends
-          ∙ sym (prepend_twice bytes unread new.left)
-          ∙ ap (λ (l : List ℕ). prepend_known l new.left) more;
+      rest = t.rest ++ more;
+      took = moves (t.header ++ (t.raster ++ t.rest)) t.took ∙ ap (λ (l : List ℕ). prepend_known l new.left) all;
       place = t.place;
       is_header = t.is_header;
       short = t.short;
@@ -147,3 +145,59 @@ top_from begun given unchanged old new first last unread before after (Err fault
       begins = t.begins;
       top = t.top;
     })
+
+-- another fault was answered
+pub after_other : {Sink : Type 0} (begun : Sink → ℕ → ℕ → Sink → Type 0) (given : Sink → List ℕ → Sink → Type 0) (unchanged : Sink → Sink → Type 0) (old new : SourceView) (before after : Sink)
+    (own fault : PageFault) → ((n : ℕ) → StandsBehind n own → StandsBehind n fault) → AfterFault begun given unchanged old new before after own → AfterFault begun given unchanged old new before after fault
+after_other begun given unchanged old new before after own fault place (inl stays) = inl stays
+after_other begun given unchanged old new before after own fault place (inr t) =
+    inr (record {
+      form = t.form;
+      page = t.page;
+      header = t.header;
+      raster = t.raster;
+      rest = t.rest;
+      took = t.took;
+      place = place (length t.header + length t.raster) t.place;
+      is_header = t.is_header;
+      short = t.short;
+      size = t.size;
+      empty = t.empty;
+      begins = t.begins;
+      top = t.top;
+    })
+
+-- a page that was given whole is all of its rows
+pub image_after : {Sink : Type 0} (begun : Sink → ℕ → ℕ → Sink → Type 0) (given : Sink → List ℕ → Sink → Type 0) (unchanged : Sink → Sink → Type 0) (old new : SourceView) (before after : Sink)
+    (image : Image) (fault : PageFault) → ((n : ℕ) → n ≤ 268435456 → StandsBehind n fault) → TookImage begun given old new before after image
+    → AfterFault begun given unchanged old new before after fault
+image_after begun given unchanged old new before after image fault place t =
+    let s = t.spells.0 in
+    let h = s.has_header in
+    let short = s.short in
+    inr (record {
+      form = s.form;
+      page = t.page;
+      header = s.header;
+      raster = s.raster;
+      rest = s.tail;
+      took = t.took ∙ ap (λ (l : List ℕ). prepend_known l new.left) h.whole;
+      place = place (length s.header + length s.raster)
+          (omega (arith, short, ap length h.whole, length-append s.header (s.raster ++ s.tail), length-append s.raster s.tail));
+      is_header = h.is_header;
+      short = h.short;
+      size = s.size;
+      empty = t.sink.empty;
+      begins = t.sink.begins;
+      top = record { count = t.page.height; few = omega arith; spelled = s.rows; top = after; rows = t.sink.rows; stays = inl refl };
+    })
+
+-- ---- a feed that begins with nothing unread, and in which bytes may be left
+
+pub top_from : {Sink : Type 0} (begun : Sink → ℕ → ℕ → Sink → Type 0) (given : Sink → List ℕ → Sink → Type 0) (unchanged : Sink → Sink → Type 0) (old new first last : SourceView)
+    (unread : List ℕ) (before after : Sink) (result : Result Size PageFault) → first.left ≡ old.left → last.left ≡ prepend_known unread new.left
+    → IfErr result (AfterFault begun given unchanged first last before after) → IfErr result (AfterFault begun given unchanged old new before after)
+top_from begun given unchanged old new first last unread before after (Ok size) begins ends f = tt
+top_from begun given unchanged old new first last unread before after (Err fault) begins ends f =
+    after_moved begun given unchanged old new first last unread before after fault
+    (λ bytes took. sym begins ∙ took ∙ ap (λ (k : Option (List ℕ)). prepend_known bytes k) ends ∙ sym (prepend_twice bytes unread new.left)) f

@@ -1,5 +1,5 @@
 -- What is wrong with bytes that spell no page. The whole list is judged, by the grammar alone.
-use Rattle.std.specs.Prelude.{◌≡◌, ◌<◌, ◌≤◌, ◌⊎◌, ℕ, ◌+◌, min, List, [], ◌∷◌, ◌++◌, length, codes}
+use Rattle.std.specs.Prelude.{◌≡◌, ◌<◌, ◌≤◌, ◌⊎◌, ℕ, ◌+◌, min, List, [], ◌∷◌, ◌++◌, length, codes, ⊤}
 use Rattle.pbm_reader.specs.declared.limits.TheConstants.{MAX_HEADER, MAX_INPUT, MAX_NUMBER}
 use Rattle.pbm_reader.specs.declared.fault.PageFault.{PageFault}
 use Rattle.pbm_reader.specs.declared.fault.PageFault.TheVariants as faults
@@ -137,6 +137,15 @@ pub record IsTrailing (input : List ℕ) (at : ℕ) : Type 0 where
   pub refused : MayFollow form (byte ∷ []) → ⊥
   pub place_is : at ≡ length header + length raster
   pub low : at < MAX_INPUT
+
+-- the fault's offset, if it has one, is one of an input
+abbrev pub HasLowPlace : PageFault → Type 0
+HasLowPlace (faults.Magic at) = at ≤ MAX_INPUT
+HasLowPlace (faults.Header at) = at ≤ MAX_INPUT
+HasLowPlace (faults.Truncated at) = at ≤ MAX_INPUT
+HasLowPlace (faults.Pixel at) = at ≤ MAX_INPUT
+HasLowPlace (faults.Trailing at) = at ≤ MAX_INPUT
+HasLowPlace fault = ⊤
 
 -- the input has this fault, which isn't its length
 abbrev pub HasFaultWithin : List ℕ → PageFault → Type 0

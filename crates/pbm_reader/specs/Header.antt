@@ -75,8 +75,11 @@ NameFails old new (faults.Magic at) = IfSome old.left (λ input. IsNameFault new
 NameFails old new faults.ReadFault = (taken : List ℕ) × Took old new taken × ((taken ≡ []) ⊎ (taken ≡ codes "P"))
 NameFails old new fault = ⊥
 
--- the fault is one that stands in a header, or a read failed there
+-- the fault is one that stands in a header, at one of its places, or a read failed there
 abbrev pub IsOfHeader : PageFault → Type 0
+IsOfHeader (faults.Magic at) = at ≤ MAX_HEADER
+IsOfHeader (faults.Header at) = at ≤ MAX_HEADER
+IsOfHeader (faults.Truncated at) = at ≤ MAX_HEADER
 IsOfHeader (faults.Pixel at) = ⊥
 IsOfHeader (faults.Trailing at) = ⊥
 IsOfHeader faults.InputTooLong = ⊥

@@ -1,5 +1,5 @@
 -- A reader of several images in one input, and what its calls do.
-use Rattle.std.specs.Prelude.{◌≡◌, ◌≤◌, ◌<◌, ◌⊎◌, ℕ, ◌+◌, Bool, true, false, List, [], ◌++◌, length, Option, Some, None, Result, Ok, Err, IfSome, IfNone, IfOk, IfErr, codes, ⊤, ◌-◌, ◌==◌}
+use Rattle.std.specs.Prelude.{◌≡◌, ◌≤◌, ◌<◌, ◌⊎◌, ℕ, ◌+◌, Bool, true, false, List, [], ◌++◌, length, Option, Some, None, Result, Ok, Err, IfSome, IfNone, IfOk, IfErr, codes, ⊤, ◌-◌}
 use Rattle.std.specs.Io.KnownBytes.{prepend_known, IsAtEnd}
 use Rattle.pbm_reader.specs.declared.limits.TheConstants.{MAX_IMAGES, MAX_INPUT}
 use Rattle.pbm_reader.specs.declared.fault.Size.{Size}
@@ -9,10 +9,10 @@ use Rattle.pbm_reader.specs.declared.form.Form.{Form}
 use Rattle.pbm_reader.specs.declared.form.Form.TheVariants.{Plain, Raw}
 use Rattle.pbm_reader.specs.declared.image.Image.{Image}
 use Rattle.packed_rows.specs.Page.{Page}
-use Rattle.pbm_reader.specs.Fault.{Begins, HasFaultWithin, DecidesNothing}
-use Rattle.pbm_reader.specs.Images.{SpellsIn, AreImages, BeginsImage, HasPagesFault}
+use Rattle.pbm_reader.specs.Fault.{Begins, HasFaultWithin, HasLowPlace, DecidesNothing}
+use Rattle.pbm_reader.specs.Images.{SpellsIn, AreImages, BeginsImage, HasPagesFault, behind_bytes}
 use Rattle.pbm_reader.specs.Given.{AfterFault, AfterPage}
-use Rattle.pbm_reader.specs.Feed.{seen, unseen, with_unread}
+use Rattle.pbm_reader.specs.Feed.{PieceView, is_limited, unseen, whole, with_unread}
 use Rattle.layout_outside.specs.Views.{SourceView}
 use Rattle.layout_outside.specs.Taken.{HasEnded, Took, TookAll}
 
@@ -50,15 +50,6 @@ abbrev pub IsAtPlace : ℕ → PageFault → Type 0
 IsAtPlace place (faults.Truncated at) = at ≡ place
 IsAtPlace place (faults.Magic at) = at ≡ place
 IsAtPlace place fault = ⊥
-
--- the fault's offset, if it has one, is one of an input
-abbrev pub HasLowPlace : PageFault → Type 0
-HasLowPlace (faults.Magic at) = at ≤ MAX_INPUT
-HasLowPlace (faults.Header at) = at ≤ MAX_INPUT
-HasLowPlace (faults.Truncated at) = at ≤ MAX_INPUT
-HasLowPlace (faults.Pixel at) = at ≤ MAX_INPUT
-HasLowPlace (faults.Trailing at) = at ≤ MAX_INPUT
-HasLowPlace fault = ⊤
 
 -- the bytes have this fault, and where it stands at their end, the source has answered it
 pub record FailsOn (is_first : Bool) (new : SourceView) (fault : PageFault) (bytes : List ℕ) : Type 0 where
@@ -132,12 +123,19 @@ pub record GivesImage {Sink : Type 0} (begun : Sink → ℕ → ℕ → Sink →
   pub count_is : new.count ≡ old.count + 1
   pub few : new.count ≤ MAX_IMAGES
   pub alone : form ≡ Plain → old.count ≡ 0
+  pub all : form ≡ Plain → IsAtEnd (coming new later)
   pub ended : new.has_ended ≡ is_plain form
 
 -- nothing comes next behind an image, and the source has answered its end
-pub record EndsBehind (old : ImagesView) (source : SourceView) : Type 0 where
+pub record EndsBehind (old new : ImagesView) (source : SourceView) : Type 0 where
   pub some : 0 < old.count
   pub nothing : IsAtEnd (coming old source)
+  pub ended : new.has_ended ≡ true
+
+-- where the source has answered its end, in this call or before it, nothing is left
+pub record TellsEnd (old new : ImagesView) (later : SourceView) : Type 0 where
+  pub nothing : new.has_ended ≡ true → IsAtEnd later.left
+  pub answered : new.has_ended ≡ true → old.has_ended ≡ false → later.ended ≡ true
 
 -- why no image was given: what comes has this fault behind the images before it; or a read failed, and the bytes taken decide none
 abbrev pub RefusesNext : ImagesView → ImagesView → SourceView → SourceView → PageFault → Type 0
@@ -146,13 +144,30 @@ RefusesNext old new source later faults.ReadFault =
 RefusesNext old new source later faults.Memory = ⊤
 RefusesNext old new source later fault = IfSome (coming old source) (λ bytes. IsNextFault old.count old.judged bytes fault)
 
--- nothing but what is held is another
-pub record HasSameState (old new : ImagesView) : Type 0 where
+-- what comes, behind what is held
+abbrev pub behind_held : ImagesView → SourceView → SourceView
+behind_held reader source = with_unread reader.held source
+
+-- the sink after a fault: it was given nothing, or top rows that the bytes before the fault spell whole, whose own offset counts from the
+-- front of what comes
+abbrev pub AfterNextFault : {Sink : Type 0} → (Sink → ℕ → ℕ → Sink → Type 0) → (Sink → List ℕ → Sink → Type 0) → (Sink → Sink → Type 0)
+    → ImagesView → ImagesView → SourceView → SourceView → Sink → Sink → PageFault → Type 0
+AfterNextFault begun given unchanged old new source later before after fault =
+    (own : PageFault) × (fault ≡ behind_bytes old.judged own)
+    × AfterFault begun given unchanged (behind_held old source) (behind_held new later) before after own
+
+-- nothing is another but what is held, and whether the end was answered
+pub record HasSamePlace (old new : ImagesView) : Type 0 where
   pub judged : new.judged ≡ old.judged
   pub count : new.count ≡ old.count
   pub is_open : new.is_open ≡ old.is_open
   pub gave_byte : new.gave_byte ≡ old.gave_byte
-  pub has_ended : new.has_ended ≡ old.has_ended
+
+-- where an image comes next it is given, or memory was refused
+abbrev pub IsGivenUnlessMemory : {T : Type 0} → Result (Option T) PageFault → Type 0
+IsGivenUnlessMemory (Ok (Some item)) = ⊤
+IsGivenUnlessMemory (Ok None) = ⊥
+IsGivenUnlessMemory (Err fault) = fault ≡ faults.Memory
 
 -- the answer is an image
 abbrev pub is_given : {T : Type 0} → Result (Option T) PageFault → Bool
@@ -174,29 +189,37 @@ RefusesByte old new source later fault = ⊥
 
 -- ---- reading within the limit of an input
 
--- how many bytes may still be read
-abbrev pub room_of : ImagesView → ℕ
-room_of reader = MAX_INPUT - (reader.judged + length reader.held)
+-- the answer stands at the end of what may be read, so many bytes, and would be another if the input went on
+abbrev pub StandsAtEnd : ℕ → Result (Option Image) PageFault → Type 0
+StandsAtEnd left (Ok None) = ⊤
+StandsAtEnd left (Ok (Some image)) = image.form ≡ Plain
+StandsAtEnd left (Err fault) = IsAtPlace left fault
 
--- what comes within the limit, so many bytes behind those that are held
-abbrev pub limited : ImagesView → ℕ → SourceView → SourceView
-limited reader room source = with_unread reader.held (seen (Some room) source)
+-- the answer, with the offset of its fault counted from so many bytes further to the front
+abbrev pub counted_from : ℕ → Result (Option Image) PageFault → Result (Option Image) PageFault
+counted_from len (Ok read) = Ok read
+counted_from len (Err fault) = Err (behind_bytes len fault)
 
-abbrev pub is_first : ImagesView → Bool
-is_first reader = reader.count == 0
-
--- an image was read of what comes within the limit, or not
-pub record ReadsLimited {Sink : Type 0} (begun : Sink → ℕ → ℕ → Sink → Type 0) (given : Sink → List ℕ → Sink → Type 0)
-    (unchanged : Sink → Sink → Type 0) (old new : ImagesView) (source later : SourceView) (before after : Sink)
+-- An image was read of a piece and its source, or not, within so many bytes. Behind an image that many bytes have what is unread too; behind
+-- another answer nothing is unread.
+pub record ReadsWithin {Sink : Type 0} (begun : Sink → ℕ → ℕ → Sink → Type 0) (given : Sink → List ℕ → Sink → Type 0)
+    (unchanged : Sink → Sink → Type 0) (is_first : Bool) (left : ℕ) (old new : PieceView) (source later : SourceView) (before after : Sink)
     (result : Result (Option Image) PageFault) : Type 0 where
-  pub room : ℕ
-  pub unseen_is : unseen (Some room) later ≡ unseen (Some (room_of old)) source
-  pub image : IfOk result (λ read. IfSome read (λ image. MayBe (is_first old) image.form
-      × TookImage begun given (limited old (room_of old) source) (limited new room later) before after image))
-  pub end : IfOk result (λ read. IfNone read (TookAll (limited old (room_of old) source) (limited new room later) []
-      × (is_first old ≡ false) × (after ≡ before)))
-  pub fault : IfErr result (ImageFails (is_first old) (limited old (room_of old) source) (limited new room later))
-  pub top : IfErr result (AfterFault begun given unchanged (limited old (room_of old) source) (limited new room later) before after)
+  pub first : PieceView
+  pub last : PieceView
+  pub unread : first.unread ≡ old.unread
+  pub limit : first.room ≡ Some (left - length old.unread)
+  pub limited : is_limited last.room ≡ is_limited first.room
+  pub unseen_is : unseen last.room later ≡ unseen first.room source
+  pub room : new.room ≡ last.room
+  pub image : IfOk result (λ read. IfSome read (λ image. MayBe is_first image.form
+      × TookImage begun given (whole first source) (whole last later) before after image
+      × (image.len + length new.unread ≤ left) × (new.unread ≡ last.unread)))
+  pub end : IfOk result (λ read. IfNone read (TookAll (whole first source) (whole last later) []
+      × (is_first ≡ false) × (after ≡ before) × (new.unread ≡ [])))
+  pub fault : IfErr result (λ fault. ImageFails is_first (whole first source) (whole last later) fault × (new.unread ≡ [])
+      × AfterFault begun given unchanged (whole first source) (whole last later) before after fault
+      × HasLowPlace fault × (fault ≡ faults.ReadFault → last.unread ≡ []))
 
 -- an image was taken of what came, and what is held behind it stands within the limit; the sink was given its page
 pub record TakesImage {Sink : Type 0} (begun : Sink → ℕ → ℕ → Sink → Type 0) (given : Sink → List ℕ → Sink → Type 0)
@@ -211,4 +234,10 @@ pub record TakesImage {Sink : Type 0} (begun : Sink → ℕ → ℕ → Sink →
   pub sink : AfterPage begun given page before after
   pub low : old.judged + image.len + length new.held ≤ MAX_INPUT
   pub alone : image.form ≡ Plain → old.count ≡ 0
-  pub ended : image.form ≡ Plain → (new.held ≡ []) × IsAtEnd later.left
+  pub ended : image.form ≡ Plain → (new.held ≡ []) × HasEnded later
+
+-- nothing comes next, nothing is held, and the source answered its end
+pub record EndsHere (old new : ImagesView) (source later : SourceView) : Type 0 where
+  pub nothing : IsAtEnd (coming old source)
+  pub none : new.held ≡ []
+  pub ended : HasEnded later

@@ -1,8 +1,8 @@
 //! What a reader answers.
-ghost use Rattle.std.specs.Prelude.{◌≡◌, ◌≤◌, ℕ, IfSome, IfNone};
+ghost use Rattle.std.specs.Prelude.{◌≡◌, ◌≤◌};
 ghost use Rattle.pbm_reader.specs.declared.limits.TheConstants.{MAX_INPUT};
 ghost use Rattle.pbm_reader.specs.Images.{behind_bytes};
-ghost use Rattle.pbm_reader.specs.Reader.{HasLowPlace, IsAtPlace};
+ghost use Rattle.pbm_reader.specs.Fault.{HasLowPlace};
 ghost use Rattle.pbm_reader.specs.declared.fault.PageFault.TheVariants.{ReadFault, Memory};
 
 use layout_limits::OutOfMemory;
@@ -55,37 +55,17 @@ pub enum PageFault {
 impl PageFault {
     /// The fault, with its offset counted from so many bytes further to the front.
     pub(crate) fn behind(self, len: u64) -> PageFault
-        ensures { HasLowPlace self → len ≤ MAX_INPUT → result ≡ behind_bytes len self }
+        requires place { HasLowPlace self }
+        requires len { len ≤ MAX_INPUT }
+        ensures { result ≡ behind_bytes len self }
     {
         match self {
-            PageFault::Magic { at } => PageFault::Magic {
-                at: len.saturating_add(at),
-            },
-            PageFault::Header { at } => PageFault::Header {
-                at: len.saturating_add(at),
-            },
-            PageFault::Truncated { at } => PageFault::Truncated {
-                at: len.saturating_add(at),
-            },
-            PageFault::Pixel { at } => PageFault::Pixel {
-                at: len.saturating_add(at),
-            },
-            PageFault::Trailing { at } => PageFault::Trailing {
-                at: len.saturating_add(at),
-            },
+            PageFault::Magic { at } => PageFault::Magic { at: len + at },
+            PageFault::Header { at } => PageFault::Header { at: len + at },
+            PageFault::Truncated { at } => PageFault::Truncated { at: len + at },
+            PageFault::Pixel { at } => PageFault::Pixel { at: len + at },
+            PageFault::Trailing { at } => PageFault::Trailing { at: len + at },
             fault => fault,
-        }
-    }
-
-    /// The offset of the end of the input where the fault may stand there, and none where it is
-    /// another.
-    pub(crate) fn end(self) -> Option<u64>
-        ensures at { IfSome result (λ at. IsAtPlace at self) }
-        ensures none { IfNone result ((place : ℕ) → IsAtPlace place self → ⊥) }
-    {
-        match self {
-            PageFault::Magic { at } | PageFault::Truncated { at } => Some(at),
-            _ => None,
         }
     }
 }

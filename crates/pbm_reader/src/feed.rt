@@ -1,6 +1,6 @@
 //! The bytes of the input one after the other, in whatever pieces the source hands them out.
 ghost use Rattle.std.specs.Prelude.{◌≡◌, ◌<◌, ◌≤◌, ◌⊎◌, ◌-◌, ◌+◌, ℕ, false, List, [], ◌∷◌, ◌++◌, length, Some, None};
-ghost use Rattle.std.specs.Prelude.{take, drop, min, IfSome, IfNone, IfOk, OnOk, OnErr, IsTrue, ◌↔◌, vec_len};
+ghost use Rattle.std.specs.Prelude.{take, drop, min, IfSome, IfNone, IfOk, OnOk, OnErr, IsTrue, IsFalse, ◌↔◌, vec_len};
 ghost use Rattle.layout_outside.specs.Taken.{HasEnded, HasSourceCause, Took, TookAll, TookPart};
 ghost use Rattle.layout_outside.specs.Views.{IsRead};
 ghost use Rattle.pbm_reader.specs.Feed.{FeedView, PieceView, fed, is_limited, seen, unseen, whole, with_unread};
@@ -165,7 +165,7 @@ impl Piece {
     pub fn next_byte<S: Source>(&mut self, src: &mut S) -> Result<Option<u8>, Failed>
         ensures byte { IfOk result (λ next. IfSome next (λ byte. Took (whole self.old (S.view src.old)) (whole self.new (S.view src.new)) (byte ∷ []))) }
         ensures end { IfOk result (λ next. IfNone next (TookAll (whole self.old (S.view src.old)) (whole self.new (S.view src.new)) [])) }
-        ensures none { IfOk result (λ next. IfNone next (self.new.room ≡ self.old.room)) }
+        ensures none { IfOk result (λ next. IfNone next ((self.new.room ≡ self.old.room) × (self.old.unread ≡ []))) }
         ensures err { OnErr result (Took (whole self.old (S.view src.old)) (whole self.new (S.view src.new)) []) }
         ensures drained { OnErr result (self.new.unread ≡ []) }
         ensures held { 0 < length self.old.unread → (src.new ≡ src.old) × IfOk result (λ next. IfSome next (λ byte. self.old.unread ≡ byte ∷ self.new.unread)) }
@@ -180,6 +180,32 @@ impl Piece {
         }
         self.refill(src)?;
         Ok(self.pop())
+    }
+
+    /// Whether all that may be read was read, and nothing of it is unread.
+    pub fn is_spent(&self) -> bool
+        ensures { IsTrue result ↔ (self.now.unread ≡ []) × (self.now.room ≡ Some 0) }
+    {
+        self.is_empty() && self.room == Some(0)
+    }
+
+    /// Whether a byte comes next, behind what may be read too. One that is read for it is dropped.
+    pub fn goes_on<S: Source>(&mut self, src: &mut S) -> Result<bool, Failed>
+        requires { 0 < self.old.space }
+        ensures more { IfOk result (λ more. IsTrue more → (0 < length self.old.unread) ⊎ ((byte : ℕ) × Took (S.view src.old) (S.view src.new) (byte ∷ []))) }
+        ensures end { IfOk result (λ more. IsFalse more → TookAll (S.view src.old) (S.view src.new) [] × (self.old.unread ≡ [])) }
+        ensures err { OnErr result (Took (S.view src.old) (S.view src.new) [] × (self.old.unread ≡ [])) }
+        ensures quiet { 0 < length self.old.unread → src.new ≡ src.old }
+        ensures unread { self.new.unread ≡ self.old.unread }
+        ensures space { self.new.space ≡ self.old.space }
+        ensures cause { HasSourceCause (S.view src.old) (S.view src.new) result }
+    {
+        if !self.is_empty() {
+            return Ok(true);
+        }
+        self.limit(1);
+        let next = self.next_byte(src)?;
+        Ok(next.is_some())
     }
 }
 

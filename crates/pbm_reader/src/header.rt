@@ -6,7 +6,7 @@ ghost use Rattle.layout_outside.specs.Views.{SourceView};
 ghost use Rattle.layout_outside.specs.Taken.{HasEnded, Took, TookAll};
 ghost use Rattle.pbm_reader.specs.Spelling.{magic};
 ghost use Rattle.pbm_reader.specs.Header.{wrong_byte, missing_byte, IsOfHeader, NameFails, TookHeader, TookSizes};
-ghost use Rattle.pbm_reader.specs.Fault.{IsSizeFault};
+ghost use Rattle.pbm_reader.specs.Fault.{HasLowPlace, IsSizeFault};
 
 use crate::fault::{PageFault, Size};
 use crate::feed::Feed;
@@ -62,6 +62,7 @@ pub(crate) fn read_name<S: Source>(feed: &mut Feed<'_, S>) -> Result<Option<Form
     ensures name { IfOk result (λ name. IfSome name (λ form. Took feed.old.source feed.new.source (magic form))) }
     ensures end { IfOk result (λ name. IfNone name (TookAll feed.old.source feed.new.source [])) }
     ensures fault { IfErr result (NameFails feed.old.source feed.new.source) }
+    ensures low { IfErr result HasLowPlace }
     ensures drained { result ≡ Err PageFault.ReadFault → feed.new.unread ≡ [] }
     ensures same { feed.new.borrow ≡ feed.old.borrow }
     ensures cause { HasReadCause feed.old.source feed.new.source result }

@@ -3,6 +3,7 @@ ghost use Rattle.std.specs.Prelude.{◌≡◌, ◌≤◌, false, List, [], IfOk,
 ghost use Rattle.layout_outside.specs.Views.{SourceView};
 ghost use Rattle.layout_outside.specs.Taken.{Took, TookAll};
 ghost use Rattle.pbm_reader.specs.Spelling.{magic};
+ghost use Rattle.pbm_reader.specs.Fault.{HasLowPlace};
 ghost use Rattle.pbm_reader.specs.Given.{AfterFault};
 ghost use Rattle.pbm_reader.specs.Tail.{TookBehind, BehindFails};
 ghost use Rattle.pbm_reader.specs.Feed.{is_limited, unseen, whole};
@@ -38,6 +39,7 @@ fn read_image_name<S: Source>(
     ensures name { IfOk result (λ name. IfSome name (λ form. Took feed.old.source feed.new.source (magic form) × MayBe is_first form)) }
     ensures end { IfOk result (λ name. IfNone name (TookAll feed.old.source feed.new.source [] × (is_first ≡ false))) }
     ensures fault { IfErr result (ImageFails is_first feed.old.source feed.new.source) }
+    ensures low { IfErr result HasLowPlace }
     ensures drained { result ≡ Err PageFault.ReadFault → feed.new.unread ≡ [] }
     ensures same { feed.new.borrow ≡ feed.old.borrow }
     ensures cause { HasReadCause feed.old.source feed.new.source result }
@@ -79,6 +81,7 @@ fn read_named<S: Source, R: RowSink>(
     ensures form { IfOk result (λ image. image.form ≡ form) }
     ensures fault { IfErr result (λ fault. (first : SourceView) → Took first feed.old.source (magic form)
         → ImageFails is_first first feed.new.source fault) }
+    ensures low { IfErr result HasLowPlace }
     ensures top { IfErr result (λ fault. (first : SourceView) → Took first feed.old.source (magic form)
         → AfterFault R.begun R.given R.unchanged first feed.new.source rows.old rows.new fault) }
     ensures drained { result ≡ Err PageFault.ReadFault → feed.new.unread ≡ [] }
@@ -108,6 +111,7 @@ pub(crate) fn read_image<S: Source, R: RowSink>(
         × TookImage R.begun R.given feed.old.source feed.new.source rows.old rows.new image)) }
     ensures end { IfOk result (λ read. IfNone read (TookAll feed.old.source feed.new.source [] × (is_first ≡ false) × (rows.new ≡ rows.old))) }
     ensures fault { IfErr result (ImageFails is_first feed.old.source feed.new.source) }
+    ensures low { IfErr result HasLowPlace }
     ensures top { IfErr result (AfterFault R.begun R.given R.unchanged feed.old.source feed.new.source rows.old rows.new) }
     ensures drained { result ≡ Err PageFault.ReadFault → feed.new.unread ≡ [] }
     ensures same { feed.new.borrow ≡ feed.old.borrow }
@@ -133,6 +137,7 @@ pub(crate) fn read_of_piece<S: Source, R: RowSink>(
         × TookImage R.begun R.given (whole piece.old (S.view src.old)) (whole piece.new (S.view src.new)) rows.old rows.new image)) }
     ensures end { IfOk result (λ read. IfNone read (TookAll (whole piece.old (S.view src.old)) (whole piece.new (S.view src.new)) [] × (is_first ≡ false) × (rows.new ≡ rows.old))) }
     ensures fault { IfErr result (ImageFails is_first (whole piece.old (S.view src.old)) (whole piece.new (S.view src.new))) }
+    ensures low { IfErr result HasLowPlace }
     ensures top { IfErr result (AfterFault R.begun R.given R.unchanged (whole piece.old (S.view src.old)) (whole piece.new (S.view src.new)) rows.old rows.new) }
     ensures drained { result ≡ Err PageFault.ReadFault → piece.new.unread ≡ [] }
     ensures unseen { unseen piece.new.room (S.view src.new) ≡ unseen piece.old.room (S.view src.old) }

@@ -1,6 +1,8 @@
-//! Reads a black and white page: Netpbm's PBM, plain (`P1`) or raw (`P4`), with its comments.
+//! Reads black and white pages: Netpbm's PBM, plain (`P1`) or raw (`P4`), with its comments, one page
+//! or several images in one input.
 #![tactic(auto)]
 
+mod answer;
 mod fault;
 mod feed;
 mod form;
@@ -19,6 +21,7 @@ mod tail;
 mod tests;
 
 pub use fault::{PageFault, Size};
+pub use images::Images;
 pub use law::{each_input_is_judged, equal_pictures_are_one_page};
 pub use limits::{MAX_HEADER, MAX_IMAGES, MAX_INPUT, MAX_NUMBER, MAX_PIECE};
 pub use page::read_page;

@@ -2,6 +2,7 @@
 ghost use Rattle.std.specs.Prelude.{◌≡◌, ◌-◌, ◌<◌, ◌≤◌};
 
 mod judge;
+mod several;
 mod spaces;
 
 use crate::{

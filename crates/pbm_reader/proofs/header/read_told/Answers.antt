@@ -110,7 +110,7 @@ pub loop-at-init : goal.loop-at-init
 loop-at-init g c = record { reading = λ first named. named_begins first c.args.feed.now.source c.args.form named; same = refl; later = omega arith }
 
 pub returns-in_default-clause-of_header : goal.returns-in_default-clause-of_header
-returns-in_default-clause-of_header g c = subst IsOfHeader (sym c.missing_byte.ensures) (missing_of_header c.loop-at.state c.loop-at.at)
+returns-in_default-clause-of_header g c = subst IsOfHeader (sym c.missing_byte.ensures) (missing_of_header c.loop-at.state c.loop-at.at (omega arith))
 
 pub returns-in_default-next_state-clause-of_header : goal.returns-in_default-next_state-clause-of_header
-returns-in_default-next_state-clause-of_header g c = subst IsOfHeader (sym c.wrong_byte.ensures) (wrong_of_header c.loop-at.state c.loop-at.at)
+returns-in_default-next_state-clause-of_header g c = subst IsOfHeader (sym c.wrong_byte.ensures) (wrong_of_header c.loop-at.state c.loop-at.at (omega arith))

@@ -7,7 +7,7 @@ use Rattle.layout_outside.specs.Views.{SourceView}
 use Rattle.pbm_reader.specs.declared.form.Form.{Form}
 use Rattle.pbm_reader.specs.Spelling.{magic}
 use Rattle.pbm_reader.proofs.TopRows.{top_rows, all_rows_given}
-use Rattle.pbm_reader.proofs.ImageRead.{header_fails, rows_fail, behind_fails, image_read}
+use Rattle.pbm_reader.proofs.ImageRead.{header_fails, rows_fail, behind_fails, image_read, header_low, raster_low, tail_low}
 use Rattle.pbm_reader.proofs.image.read_named.Goals as goal
 
 -- a source before the name was taken
@@ -20,6 +20,23 @@ returns-in_err-header-clause-fault g c =
     let e = c.in_err-header.ensures in
     rw (p.1, p.2) (λ first named. header_fails c.args.is_first c.args.form first c.args.feed.now.source c.read_sizes.new.feed.source c.in_err-header.field-0.0 c.requires.place named
     (e.fault first named) e.of_header (λ at is. e.ended at (ap (λ (k : PageFault). Err k) is)))
+
+pub returns-in_err-header-clause-low : goal.returns-in_err-header-clause-low
+returns-in_err-header-clause-low g c =
+    let p = err_from_is_err_and c.from_residual.result c.from_residual.ensures.1 in
+    rw (p.1, p.2) (header_low c.in_err-header.field-0.0 c.in_err-header.ensures.of_header)
+
+pub returns-in_err-end-clause-low : goal.returns-in_err-end-clause-low
+returns-in_err-end-clause-low g c =
+    let p = err_from_is_err_and c.from_residual-in_err-end.result c.from_residual-in_err-end.ensures.1 in
+    let h = c.in_ok-header.header in
+    rw (p.1, p.2)
+    (raster_low c.read_sizes.new.feed.source c.read_raster.new.feed.source h.form h.size.width h.size.height h.len c.in_err-end.field-0.0 c.in_err-end.ensures.fault)
+
+pub returns-in_err-len-clause-low : goal.returns-in_err-len-clause-low
+returns-in_err-len-clause-low g c =
+    let p = err_from_is_err_and c.from_residual-in_err-len.result c.from_residual-in_err-len.ensures.1 in
+    rw (p.1, p.2) (tail_low c.read_raster.new.feed.source c.read_behind.new.feed.source c.args.form c.in_ok-end.end c.in_err-len.field-0.0 c.in_err-len.ensures.fault.0)
 
 pub begin-requires : goal.begin-requires
 begin-requires g c =
