@@ -100,7 +100,8 @@ pub record IsNextFault (count len : ℕ) (bytes : List ℕ) (fault : PageFault) 
 -- whatever follows these bytes behind so many images, an input of them has no fault in common
 abbrev pub DecidesNoFault : ℕ → ℕ → List ℕ → Type 0
 DecidesNoFault count len taken =
-    (images : List ℕ) → WereImages count len images → (fault : PageFault) → ((rest : List ℕ) → HasPagesFault (images ++ (taken ++ rest)) fault) → ⊥
+    (images : List ℕ) → WereImages count len images → (fault : PageFault)
+    → ((rest : List ℕ) → HasPagesFault (images ++ (taken ++ rest)) fault) → ⊥
 
 abbrev pub is_plain : Form → Bool
 is_plain Plain = true

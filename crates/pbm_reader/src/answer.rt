@@ -26,7 +26,8 @@ type Answer = Result<Option<Image>, PageFault>;
 /// The answer where the image and what is unread behind it are within so many bytes, which no source
 /// that tells its bytes goes past. Behind another answer nothing stays unread.
 fn within(answer: Answer, piece: &mut Piece, left: u64) -> Answer
-    ensures image { IfOk result (λ read. IfSome read (λ image. (answer ≡ Ok (Some image)) × (piece.new.unread ≡ piece.old.unread) × (image.len + length piece.new.unread ≤ left))) }
+    ensures image { IfOk result (λ read. IfSome read (λ image. (answer ≡ Ok (Some image)) × (piece.new.unread ≡ piece.old.unread)
+        × (image.len + length piece.new.unread ≤ left))) }
     ensures none { IfOk result (λ read. IfNone read ((answer ≡ Ok None) × (piece.new.unread ≡ []))) }
     ensures fault { IfErr result (λ fault. (piece.new.unread ≡ []) × ((answer ≡ Err fault)
         ⊎ ((fault ≡ InputTooLong) × ((image : Image) × (answer ≡ Ok (Some image)) × (left < image.len + length piece.old.unread))))) }
@@ -57,7 +58,8 @@ pub(crate) fn read_within<S: Source, R: RowSink>(
 ) -> Answer
     requires space { 0 < piece.old.space }
     requires low { judged + length piece.old.unread ≤ MAX_INPUT }
-    ensures reads { ReadsWithin R.begun R.given R.unchanged is_first (MAX_INPUT - judged) piece.old piece.new (S.view src.old) (S.view src.new) rows.old rows.new result }
+    ensures reads { ReadsWithin R.begun R.given R.unchanged is_first (MAX_INPUT - judged) piece.old piece.new
+        (S.view src.old) (S.view src.new) rows.old rows.new result }
     ensures limited { is_limited piece.new.room ≡ true }
     ensures space { piece.new.space ≡ piece.old.space }
     ensures cause { HasReadCause (S.view src.old) (S.view src.new) result }
@@ -90,9 +92,11 @@ pub(crate) fn goes_past<S: Source>(
 ) -> Result<bool, Failed>
     requires space { 0 < piece.old.space }
     requires limited { is_limited piece.old.room ≡ true }
-    ensures more { IfOk result (λ more. IsTrue more → StandsAtEnd left answer.now × ((byte : ℕ) × Took (S.view src.old) (S.view src.new) (byte ∷ []))) }
+    ensures more { IfOk result (λ more. IsTrue more → StandsAtEnd left answer.now
+        × ((byte : ℕ) × Took (S.view src.old) (S.view src.new) (byte ∷ []))) }
     ensures none { IfOk result (λ more. IsFalse more → Took (S.view src.old) (S.view src.new) []) }
-    ensures ended { IfOk result (λ more. IsFalse more → StandsAtEnd left answer.now → HasEnded (whole piece.old (S.view src.old)) → HasEnded (S.view src.new)) }
+    ensures ended { IfOk result (λ more. IsFalse more → StandsAtEnd left answer.now → HasEnded (whole piece.old (S.view src.old))
+        → HasEnded (S.view src.new)) }
     ensures err { OnErr result (StandsAtEnd left answer.now × Took (S.view src.old) (S.view src.new) []) }
     ensures unread { piece.new.unread ≡ piece.old.unread }
     ensures space { piece.new.space ≡ piece.old.space }

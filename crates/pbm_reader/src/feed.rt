@@ -163,13 +163,16 @@ impl Piece {
 impl Piece {
     /// The next byte, or none at the end of what may be read. Where a byte is unread nothing is read.
     pub fn next_byte<S: Source>(&mut self, src: &mut S) -> Result<Option<u8>, Failed>
-        ensures byte { IfOk result (λ next. IfSome next (λ byte. Took (whole self.old (S.view src.old)) (whole self.new (S.view src.new)) (byte ∷ []))) }
+        ensures byte { IfOk result (λ next. IfSome next (λ byte.
+            Took (whole self.old (S.view src.old)) (whole self.new (S.view src.new)) (byte ∷ []))) }
         ensures end { IfOk result (λ next. IfNone next (TookAll (whole self.old (S.view src.old)) (whole self.new (S.view src.new)) [])) }
         ensures none { IfOk result (λ next. IfNone next ((self.new.room ≡ self.old.room) × (self.old.unread ≡ []))) }
         ensures err { OnErr result (Took (whole self.old (S.view src.old)) (whole self.new (S.view src.new)) []) }
         ensures drained { OnErr result (self.new.unread ≡ []) }
-        ensures held { 0 < length self.old.unread → (src.new ≡ src.old) × IfOk result (λ next. IfSome next (λ byte. self.old.unread ≡ byte ∷ self.new.unread)) }
-        ensures fits { IfOk result (λ next. IfSome next (λ _. (room : ℕ) → self.old.room ≡ Some room → length self.new.unread + 1 ≤ length self.old.unread + room)) }
+        ensures held { 0 < length self.old.unread → (src.new ≡ src.old)
+            × IfOk result (λ next. IfSome next (λ byte. self.old.unread ≡ byte ∷ self.new.unread)) }
+        ensures fits { IfOk result (λ next. IfSome next (λ _. (room : ℕ) → self.old.room ≡ Some room
+            → length self.new.unread + 1 ≤ length self.old.unread + room)) }
         ensures unseen { unseen self.new.room (S.view src.new) ≡ unseen self.old.room (S.view src.old) }
         ensures limited { is_limited self.new.room ≡ is_limited self.old.room }
         ensures space { self.new.space ≡ self.old.space }
@@ -192,7 +195,8 @@ impl Piece {
     /// Whether a byte comes next, behind what may be read too. One that is read for it is dropped.
     pub fn goes_on<S: Source>(&mut self, src: &mut S) -> Result<bool, Failed>
         requires { 0 < self.old.space }
-        ensures more { IfOk result (λ more. IsTrue more → (0 < length self.old.unread) ⊎ ((byte : ℕ) × Took (S.view src.old) (S.view src.new) (byte ∷ []))) }
+        ensures more { IfOk result (λ more. IsTrue more → (0 < length self.old.unread)
+            ⊎ ((byte : ℕ) × Took (S.view src.old) (S.view src.new) (byte ∷ []))) }
         ensures end { IfOk result (λ more. IsFalse more → TookAll (S.view src.old) (S.view src.new) [] × (self.old.unread ≡ [])) }
         ensures err { OnErr result (Took (S.view src.old) (S.view src.new) [] × (self.old.unread ≡ [])) }
         ensures quiet { 0 < length self.old.unread → src.new ≡ src.old }

@@ -109,7 +109,8 @@ pub(crate) fn read_image<S: Source, R: RowSink>(
 ) -> Result<Option<Image>, PageFault>
     ensures image { IfOk result (λ read. IfSome read (λ image. MayBe is_first image.form
         × TookImage R.begun R.given feed.old.source feed.new.source rows.old rows.new image)) }
-    ensures end { IfOk result (λ read. IfNone read (TookAll feed.old.source feed.new.source [] × (is_first ≡ false) × (rows.new ≡ rows.old))) }
+    ensures end { IfOk result (λ read. IfNone read (TookAll feed.old.source feed.new.source []
+        × (is_first ≡ false) × (rows.new ≡ rows.old))) }
     ensures fault { IfErr result (ImageFails is_first feed.old.source feed.new.source) }
     ensures low { IfErr result HasLowPlace }
     ensures top { IfErr result (AfterFault R.begun R.given R.unchanged feed.old.source feed.new.source rows.old rows.new) }
@@ -135,10 +136,12 @@ pub(crate) fn read_of_piece<S: Source, R: RowSink>(
 ) -> Result<Option<Image>, PageFault>
     ensures image { IfOk result (λ read. IfSome read (λ image. MayBe is_first image.form
         × TookImage R.begun R.given (whole piece.old (S.view src.old)) (whole piece.new (S.view src.new)) rows.old rows.new image)) }
-    ensures end { IfOk result (λ read. IfNone read (TookAll (whole piece.old (S.view src.old)) (whole piece.new (S.view src.new)) [] × (is_first ≡ false) × (rows.new ≡ rows.old))) }
+    ensures end { IfOk result (λ read. IfNone read (TookAll (whole piece.old (S.view src.old)) (whole piece.new (S.view src.new)) []
+        × (is_first ≡ false) × (rows.new ≡ rows.old))) }
     ensures fault { IfErr result (ImageFails is_first (whole piece.old (S.view src.old)) (whole piece.new (S.view src.new))) }
     ensures low { IfErr result HasLowPlace }
-    ensures top { IfErr result (AfterFault R.begun R.given R.unchanged (whole piece.old (S.view src.old)) (whole piece.new (S.view src.new)) rows.old rows.new) }
+    ensures top { IfErr result (AfterFault R.begun R.given R.unchanged (whole piece.old (S.view src.old))
+        (whole piece.new (S.view src.new)) rows.old rows.new) }
     ensures drained { result ≡ Err PageFault.ReadFault → piece.new.unread ≡ [] }
     ensures unseen { unseen piece.new.room (S.view src.new) ≡ unseen piece.old.room (S.view src.old) }
     ensures limited { is_limited piece.new.room ≡ is_limited piece.old.room }

@@ -55,7 +55,8 @@ impl Model for Images {
 impl Images {
     /// A reader before the first byte. Memory is taken for one piece of the input.
     pub fn new(alloc: Global) -> Result<Images, OutOfMemory>
-        ensures { IfOk result (λ reader. reader ≡ record { judged = 0; count = 0; held = []; is_open = true; gave_byte = false; has_ended = false }) }
+        ensures { IfOk result
+            (λ reader. reader ≡ record { judged = 0; count = 0; held = []; is_open = true; gave_byte = false; has_ended = false }) }
     {
         Ok(Images {
             piece: Piece::new(alloc)?,
@@ -95,13 +96,15 @@ impl Images {
         requires images { self.old.gave_byte ≡ false }
         requires end { self.old.has_ended ≡ true → IsAtEnd (S.view src.old).left }
         // An image comes next; it is judged and counted, and the sink was given its page.
-        ensures image { IfOk result (λ next. IfSome next (GivesImage R.begun R.given self.old self.new (S.view src.old) (S.view src.new) rows.old rows.new)) }
+        ensures image { IfOk result (λ next. IfSome next (GivesImage R.begun R.given self.old self.new (S.view src.old) (S.view src.new)
+            rows.old rows.new)) }
         // The input ends behind an image.
         ensures none { IfOk result (λ next. IfNone next (EndsBehind self.old self.new (S.view src.old) × (rows.new ≡ rows.old))) }
         // What comes has just this fault behind the images before it; or a read failed, and the bytes taken decide no fault.
         ensures fault { IfErr result (RefusesNext self.old self.new (S.view src.old) (S.view src.new)) }
         // After a fault the sink was given nothing, or top rows that the bytes before the fault spell whole.
-        ensures top { IfErr result (AfterNextFault R.begun R.given R.unchanged self.old self.new (S.view src.old) (S.view src.new) rows.old rows.new) }
+        ensures top { IfErr result (AfterNextFault R.begun R.given R.unchanged self.old self.new (S.view src.old) (S.view src.new)
+            rows.old rows.new) }
         // Where the end was answered nothing is read.
         ensures quiet { self.old.has_ended ≡ true → src.new ≡ src.old }
         ensures open { self.new.is_open ≡ is_given result }
@@ -115,11 +118,13 @@ impl Images {
         // Where nothing comes no image is given.
         ensures ends { coming self.old (S.view src.old) ≡ Some [] → IfOk result (λ next. next ≡ None) }
         // Where the input spells a list of pages and no read failed, the answer is no fault unless memory is refused.
-        ensures complete { (images bytes : List ℕ) → WereImages self.old.count self.old.judged images → coming self.old (S.view src.old) ≡ Some bytes
-            → ArePages (images ++ bytes) → ¬ Rose (S.view src.old).faults (S.view src.new).faults → IsOkUnless result PageFault.Memory }
+        ensures complete { (images bytes : List ℕ) → WereImages self.old.count self.old.judged images
+            → coming self.old (S.view src.old) ≡ Some bytes → ArePages (images ++ bytes)
+            → ¬ Rose (S.view src.old).faults (S.view src.new).faults → IsOkUnless result PageFault.Memory }
         // Where it has a fault, no image comes next and no read failed, that fault is answered unless memory is refused.
-        ensures faulty { (images bytes : List ℕ) (fault : PageFault) → WereImages self.old.count self.old.judged images → coming self.old (S.view src.old) ≡ Some bytes
-            → HasPagesFault (images ++ bytes) fault → ¬ IsNextImage self.old.count self.old.judged bytes → ¬ Rose (S.view src.old).faults (S.view src.new).faults
+        ensures faulty { (images bytes : List ℕ) (fault : PageFault) → WereImages self.old.count self.old.judged images
+            → coming self.old (S.view src.old) ≡ Some bytes → HasPagesFault (images ++ bytes) fault
+            → ¬ IsNextImage self.old.count self.old.judged bytes → ¬ Rose (S.view src.old).faults (S.view src.new).faults
             → AnswersFault fault result }
     {
         let result = self.next_size(alloc, src, rows);
@@ -136,16 +141,18 @@ impl Images {
     ) -> Result<Option<Size>, PageFault>
         requires images { self.old.gave_byte ≡ false }
         requires end { self.old.has_ended ≡ true → IsAtEnd (S.view src.old).left }
-        ensures image { IfOk result (λ next. IfSome next (GivesImage R.begun R.given self.old self.new (S.view src.old) (S.view src.new) rows.old rows.new)) }
+        ensures image { IfOk result (λ next. IfSome next (GivesImage R.begun R.given self.old self.new (S.view src.old) (S.view src.new)
+            rows.old rows.new)) }
         ensures none { IfOk result (λ next. IfNone next (EndsBehind self.old self.new (S.view src.old) × (rows.new ≡ rows.old))) }
         ensures fault { IfErr result (RefusesNext self.old self.new (S.view src.old) (S.view src.new)) }
-        ensures top { IfErr result (AfterNextFault R.begun R.given R.unchanged self.old self.new (S.view src.old) (S.view src.new) rows.old rows.new) }
+        ensures top { IfErr result (AfterNextFault R.begun R.given R.unchanged self.old self.new (S.view src.old) (S.view src.new)
+            rows.old rows.new) }
         ensures quiet { self.old.has_ended ≡ true → src.new ≡ src.old }
         ensures called { self.new.gave_byte ≡ false }
         ensures count { is_given result ≡ false → self.new.count ≡ self.old.count }
         ensures end { TellsEnd self.old self.new (S.view src.new) }
         ensures cause { HasReadCause (S.view src.old) (S.view src.new) result }
-        ensures within { (self.old.count ≤ MAX_IMAGES) × (self.old.judged ≤ MAX_INPUT) }
+        ensures bounds { (self.old.count ≤ MAX_IMAGES) × (self.old.judged ≤ MAX_INPUT) }
     {
         if self.has_ended {
             return Ok(None);
@@ -194,10 +201,13 @@ impl Images {
     ) -> Result<Option<Image>, PageFault>
         requires open { self.old.has_ended ≡ false }
         requires few { self.old.count < MAX_IMAGES }
-        ensures image { IfOk result (λ read. IfSome read (TakesImage R.begun R.given self.old self.new (S.view src.old) (S.view src.new) rows.old rows.new)) }
-        ensures none { IfOk result (λ read. IfNone read (EndsHere self.old self.new (S.view src.old) (S.view src.new) × (0 < self.old.count) × (rows.new ≡ rows.old))) }
+        ensures image { IfOk result (λ read. IfSome read (TakesImage R.begun R.given self.old self.new (S.view src.old) (S.view src.new)
+            rows.old rows.new)) }
+        ensures none { IfOk result (λ read. IfNone read (EndsHere self.old self.new (S.view src.old) (S.view src.new)
+            × (0 < self.old.count) × (rows.new ≡ rows.old))) }
         ensures fault { IfErr result (RefusesNext self.old self.new (S.view src.old) (S.view src.new)) }
-        ensures top { IfErr result (AfterNextFault R.begun R.given R.unchanged self.old self.new (S.view src.old) (S.view src.new) rows.old rows.new) }
+        ensures top { IfErr result (AfterNextFault R.begun R.given R.unchanged self.old self.new (S.view src.old) (S.view src.new)
+            rows.old rows.new) }
         ensures open { self.new.has_ended ≡ false }
         ensures same { HasSamePlace self.old self.new }
         ensures cause { HasReadCause (S.view src.old) (S.view src.new) result }
@@ -227,9 +237,9 @@ impl Images {
         ensures cause { HasReadCause (S.view src.old) (S.view src.new) result }
     {
         self.gave_byte = true;
-        let result = self.next_byte(src);
-        self.is_open = matches!(result, Ok(Some(_)));
-        result
+        let next = self.next_byte(src);
+        self.is_open = matches!(next, Ok(Some(_)));
+        next
     }
 
     /// The next byte within the limit of an input.
@@ -267,7 +277,8 @@ impl Images {
     fn take_byte<S: Source>(&mut self, src: &mut S) -> Result<Option<u8>, Failed>
         requires low { self.old.judged < MAX_INPUT }
         requires open { self.old.has_ended ≡ false }
-        ensures byte { IfOk result (λ next. IfSome next (λ byte. coming self.old (S.view src.old) ≡ prepend_known (byte ∷ []) (coming self.new (S.view src.new)))) }
+        ensures byte { IfOk result (λ next. IfSome next (λ byte.
+            coming self.old (S.view src.old) ≡ prepend_known (byte ∷ []) (coming self.new (S.view src.new)))) }
         ensures fits { IfOk result (λ next. IfSome next (λ _. self.new.judged + length self.new.held < MAX_INPUT)) }
         ensures none { IfOk result (λ next. IfNone next (EndsHere self.old self.new (S.view src.old) (S.view src.new))) }
         ensures err { OnErr result (coming self.old (S.view src.old) ≡ coming self.new (S.view src.new)) }

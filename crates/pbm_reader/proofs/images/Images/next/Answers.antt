@@ -22,5 +22,5 @@ pub returns-clause-faulty : goal.returns-clause-faulty
 returns-clause-faulty g c =
     let n = c.next_size-result.ensures in
     λ images bytes fault were told has none calm. faulty_next g.R.RowSink.begun g.R.RowSink.given c.args.self.now c.next_size-result.new.self (g.S.Source.view c.args.src.now)
-    (g.S.Source.view c.next_size-result.new.src) c.args.rows.now c.next_size-result.new.rows c.next_size-result.result images bytes fault n.image n.none n.fault n.cause n.within.0 n.within.1 were told has none
+    (g.S.Source.view c.next_size-result.new.src) c.args.rows.now c.next_size-result.new.rows c.next_size-result.result images bytes fault n.image n.none n.fault n.cause n.bounds.0 n.bounds.1 were told has none
     calm
