@@ -84,27 +84,31 @@ module _ {Sink : Type 0} {begun : Sink → ℕ → ℕ → Sink → Type 0} {giv
 
   -- ---- the answer holds of all that comes
 
-  module _ (later : SourceView) (took : Took middle later []) (ends : StandsAtEnd (268435456 - view.judged) answer → HasEnded (whole kept middle) → HasEnded later) where
+  module _ (later : SourceView) (took : Took middle later []) (ends : StandsAtEnd (268435456 - view.judged) answer → HasEnded (whole kept middle) → HasEnded later)
+      (result : Result (Option Image) PageFault) (counted : result ≡ counted_from view.judged answer) where
     ends_now : Ends begun given unchanged old (old.count == 0) w.first w.last kept source middle empty full reading answer later
     ends_now stands e = ends (subst (λ (v : ImagesView). StandsAtEnd (268435456 - v.judged) answer) (sym is) stands) e
 
-    pub call_fault : IfErr (counted_from old.judged answer) (RefusesNext old new source later)
-    call_fault = by_answer answer read ends_now
+    is_counted : counted_from old.judged answer ≡ result
+    is_counted = sym (counted ∙ ap (λ (v : ImagesView). counted_from v.judged answer) is)
+
+    pub call_fault : IfErr result (RefusesNext old new source later)
+    call_fault = subst (λ (x : Result (Option Image) PageFault). IfErr x (RefusesNext old new source later)) is_counted (by_answer answer read ends_now)
       where
         by_answer : (r : Result (Option Image) PageFault) → Read r → Ends begun given unchanged old (old.count == 0) w.first w.last kept source middle empty full reading r later
             → IfErr (counted_from old.judged r) (RefusesNext old new source later)
         by_answer (Ok o) a e = tt
         by_answer (Err own) a e = next_fault begun given unchanged old (old.count == 0) w.first w.last kept source middle empty full reading own new later a stays took e
 
-    pub call_top : IfErr (counted_from old.judged answer) (AfterNextFault begun given unchanged old new source later empty full)
-    call_top = by_answer answer read
+    pub call_top : IfErr result (AfterNextFault begun given unchanged old new source later empty full)
+    call_top = subst (λ (x : Result (Option Image) PageFault). IfErr x (AfterNextFault begun given unchanged old new source later empty full)) is_counted (by_answer answer read)
       where
         by_answer : (r : Result (Option Image) PageFault) → Read r → IfErr (counted_from old.judged r) (AfterNextFault begun given unchanged old new source later empty full)
         by_answer (Ok o) a = tt
         by_answer (Err own) a = next_top begun given unchanged old (old.count == 0) w.first w.last kept source middle empty full reading own new later a stays took
 
-    pub call_image : IfOk (counted_from old.judged answer) (λ o. IfSome o (TakesImage begun given old new source later empty full))
-    call_image = by_answer answer read ends_now
+    pub call_image : IfOk result (λ o. IfSome o (TakesImage begun given old new source later empty full))
+    call_image = subst (λ (x : Result (Option Image) PageFault). IfOk x (λ o. IfSome o (TakesImage begun given old new source later empty full))) is_counted (by_answer answer read ends_now)
       where
         by_answer : (r : Result (Option Image) PageFault) → Read r → Ends begun given unchanged old (old.count == 0) w.first w.last kept source middle empty full reading r later
             → IfOk (counted_from old.judged r) (λ o. IfSome o (TakesImage begun given old new source later empty full))
@@ -112,8 +116,8 @@ module _ {Sink : Type 0} {begun : Sink → ℕ → ℕ → Sink → Type 0} {giv
         by_answer (Ok None) a e = tt
         by_answer (Err own) a e = tt
 
-    pub call_none : IfOk (counted_from old.judged answer) (λ o. IfNone o (EndsHere old new source later × (0 < old.count) × (full ≡ empty)))
-    call_none = by_answer answer read ends_now
+    pub call_none : IfOk result (λ o. IfNone o (EndsHere old new source later × (0 < old.count) × (full ≡ empty)))
+    call_none = subst (λ (x : Result (Option Image) PageFault). IfOk x (λ o. IfNone o (EndsHere old new source later × (0 < old.count) × (full ≡ empty)))) is_counted (by_answer answer read ends_now)
       where
         by_answer : (r : Result (Option Image) PageFault) → Read r → Ends begun given unchanged old (old.count == 0) w.first w.last kept source middle empty full reading r later
             → IfOk (counted_from old.judged r) (λ o. IfNone o (EndsHere old new source later × (0 < old.count) × (full ≡ empty)))
