@@ -1,9 +1,5 @@
-use Rattle.std.proofs.Common.{◌≡◌, ◌<◌, Option, Result, refl, sym, ap, subst, ◌∙◌, rules}
-use Rattle.std.specs.Prelude.{IfSome, IfNone, IfOk, IfErr}
+use Rattle.std.proofs.Common.{refl, rules}
 use Rattle.std.proofs.lemmas.Result.{err_from_is_err_and}
-use Rattle.pbm_reader.specs.declared.image.Image.{Image}
-use Rattle.pbm_reader.specs.declared.fault.PageFault.{PageFault}
-use Rattle.pbm_reader.specs.Reader.{counted_from, AfterNextFault, EndsHere, ImagesView, RefusesNext, TakesImage}
 use Rattle.pbm_reader.proofs.NextCall.{holding, call_past, call_past_top, call_failed, call_failed_top, call_fault, call_top, call_image, call_none}
 use Rattle.pbm_reader.proofs.images.Images.take_image.Goals as goal
 
