@@ -1,5 +1,5 @@
 -- The least rectangle round connected places.
-use Rattle.std.proofs.Common.{◌≡◌, ◌<◌, ◌≤◌, ℕ, ◌+◌, ◌*◌, ◌-◌, inl, inr, arith}
+use Rattle.std.proofs.Common.{◌<◌, ◌≤◌, ℕ, ◌*◌, ◌-◌, inl, inr, refl, arith}
 use Rattle.std.proofs.lemmas.Bool.{cases_lt}
 use Rattle.std.proofs.Math.Nat.{mul-le-mul_right, mul-le-mul_left}
 use Rattle.layout_limits.specs.declared.TheConstants.{MAX_PIXELS}
@@ -11,34 +11,44 @@ use Rattle.components.specs.declared.place.Place.{Place}
 use Rattle.components.specs.declared.bounds.Bounds.{Bounds}
 use Rattle.components.specs.declared.placed_run.PlacedRun.{PlacedRun}
 use Rattle.components.specs.Connected.{IsConnected}
-use Rattle.components.specs.Around.{widened}
-use Rattle.components.specs.Runs.{first_of, last_of}
+use Rattle.components.specs.Around.{around, bounds_of}
+use Rattle.components.specs.Runs.{IsInRun, first_of, last_of}
+use Rattle.components.specs.Groups.{HasPlace, IsTouched}
 use Rattle.components.specs.Boxes.{IsBoxOf}
 use Rattle.components.proofs.Paths.{end_is_black}
 
--- the place lies within the sides
-pub record HasPlace (b : Bounds) (p : Place) : Type 0 where
-  pub from_left : b.x0 ≤ p.x
-  pub to_right : p.x < b.x1
-  pub from_top : b.y0 ≤ p.y
-  pub to_bottom : p.y < b.y1
+pub within_first : (b c : Bounds) (p : Place) → HasPlace b p → HasPlace (around b c) p
+within_first b c p has = record { from_left = omega (arith, has.from_left); to_right = omega (arith, has.to_right); from_top = omega (arith, has.from_top); to_bottom = omega (arith, has.to_bottom) }
 
--- each side is touched by a place of the set
-pub record IsTouched (S : Place → Type 0) (b : Bounds) : Type 0 where
-  pub left : (p : Place) × S p × (p.x ≡ b.x0)
-  pub right : (p : Place) × S p × (p.x + 1 ≡ b.x1)
-  pub top : (p : Place) × S p × (p.y ≡ b.y0)
-  pub bottom : (p : Place) × S p × (p.y + 1 ≡ b.y1)
+pub within_second : (b c : Bounds) (p : Place) → HasPlace c p → HasPlace (around b c) p
+within_second b c p has = record { from_left = omega (arith, has.from_left); to_right = omega (arith, has.to_right); from_top = omega (arith, has.from_top); to_bottom = omega (arith, has.to_bottom) }
 
-pub within_wider : (bounds : Bounds) (run : PlacedRun) (p : Place) → HasPlace bounds p → HasPlace (widened bounds run) p
-within_wider bounds run p has = record { from_left = omega (arith, has.from_left); to_right = omega (arith, has.to_right); from_top = omega (arith, has.from_top); to_bottom = omega (arith, has.to_bottom) }
+pub run_within : (run : PlacedRun) (p : Place) → IsInRun run p → HasPlace (bounds_of run) p
+run_within run p p_in = record { from_left = omega (arith, p_in.left); to_right = omega (arith, p_in.right); from_top = omega (arith, p_in.level); to_bottom = omega (arith, p_in.level) }
 
-pub still_touched : (S : Place → Type 0) (bounds : Bounds) (run : PlacedRun) → run.x0 < run.x1 → S (first_of run) → S (last_of run) → IsTouched S bounds → IsTouched S (widened bounds run)
-still_touched S bounds run some first last touched = record {
-  left = elim (cases_lt run.x0 bounds.x0) [ inl less ↦ (first_of run, first, omega arith) | inr not_less ↦ ((touched.left).0, (touched.left).1, omega (arith, (touched.left).2)) ];
-  right = elim (cases_lt bounds.x1 run.x1) [ inl more ↦ (last_of run, last, omega (arith, some)) | inr not_more ↦ ((touched.right).0, (touched.right).1, omega (arith, (touched.right).2)) ];
-  top = elim (cases_lt run.row bounds.y0) [ inl less ↦ (first_of run, first, omega arith) | inr not_less ↦ ((touched.top).0, (touched.top).1, omega (arith, (touched.top).2)) ];
-  bottom = elim (cases_lt bounds.y1 (run.row + 1)) [ inl more ↦ (first_of run, first, omega arith) | inr not_more ↦ ((touched.bottom).0, (touched.bottom).1, omega (arith, (touched.bottom).2)) ];
+pub run_touched : (S : Place → Type 0) (run : PlacedRun) → run.x0 < run.x1 → S (first_of run) → S (last_of run) → IsTouched S (bounds_of run)
+run_touched S run some first last = record {
+  left = (first_of run, first, refl);
+  right = (last_of run, last, omega (arith, some));
+  top = (first_of run, first, refl);
+  bottom = (first_of run, first, refl);
+}
+
+-- what touches the sides of two touches those round both
+pub around_touched : (S : Place → Type 0) (b c : Bounds) → IsTouched S b → IsTouched S c → IsTouched S (around b c)
+around_touched S b c first second = record {
+  left = elim (cases_lt c.x0 b.x0) [ inl less ↦ ((second.left).0, (second.left).1, omega (arith, (second.left).2, less)) | inr not_less ↦ ((first.left).0, (first.left).1, omega (arith, (first.left).2, not_less)) ];
+  right = elim (cases_lt b.x1 c.x1) [ inl more ↦ ((second.right).0, (second.right).1, omega (arith, (second.right).2, more)) | inr not_more ↦ ((first.right).0, (first.right).1, omega (arith, (first.right).2, not_more)) ];
+  top = elim (cases_lt c.y0 b.y0) [ inl less ↦ ((second.top).0, (second.top).1, omega (arith, (second.top).2, less)) | inr not_less ↦ ((first.top).0, (first.top).1, omega (arith, (first.top).2, not_less)) ];
+  bottom = elim (cases_lt b.y1 c.y1) [ inl more ↦ ((second.bottom).0, (second.bottom).1, omega (arith, (second.bottom).2, more)) | inr not_more ↦ ((first.bottom).0, (first.bottom).1, omega (arith, (first.bottom).2, not_more)) ];
+}
+
+pub touched_weaker : (S T : Place → Type 0) (b : Bounds) → ((p : Place) → S p → T p) → IsTouched S b → IsTouched T b
+touched_weaker S T b weaker touched = record {
+  left = ((touched.left).0, weaker (touched.left).0 (touched.left).1, (touched.left).2);
+  right = ((touched.right).0, weaker (touched.right).0 (touched.right).1, (touched.right).2);
+  top = ((touched.top).0, weaker (touched.top).0 (touched.top).1, (touched.top).2);
+  bottom = ((touched.bottom).0, weaker (touched.bottom).0 (touched.bottom).1, (touched.bottom).2);
 }
 
 -- the rectangle of the sides

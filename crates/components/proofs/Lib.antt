@@ -1,12 +1,13 @@
 pub mod Paths
 pub mod Spreading
 pub mod Bounding
-pub mod RunTables
-pub mod RunWalk
-pub mod RowVisits
+pub mod Roots
+pub mod Grouping
+pub mod Joining
+pub mod Putting
 pub mod Scanning
-pub mod Medians
 pub mod Unique
 pub mod Sorted
 pub mod Exact
 pub mod Held
+pub mod Medians

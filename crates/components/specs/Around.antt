@@ -14,6 +14,10 @@ pub record IsSmallRun (run : PlacedRun) : Type 0 where
 abbrev pub bounds_of : PlacedRun → Bounds
 bounds_of run = record { x0 = run.x0; y0 = run.row; x1 = run.x1; y1 = run.row + 1 }
 
+-- the sides round what lies within the one sides or the other
+abbrev pub around : Bounds → Bounds → Bounds
+around b c = record { x0 = min b.x0 c.x0; y0 = min b.y0 c.y0; x1 = max b.x1 c.x1; y1 = max b.y1 c.y1 }
+
 -- the sides round what was there and this run
 abbrev pub widened : Bounds → PlacedRun → Bounds
-widened b run = record { x0 = min b.x0 run.x0; y0 = min b.y0 run.row; x1 = max b.x1 run.x1; y1 = max b.y1 (run.row + 1) }
+widened b run = around b (bounds_of run)

@@ -4,6 +4,7 @@ pub mod Boxes
 pub mod Kept
 pub mod Around
 pub mod Runs
+pub mod Groups
 pub mod Scanning
 pub use Rattle.page_runs.specs.Page
 pub use Rattle.page_runs.specs.Packed

@@ -82,9 +82,8 @@ fn median_height(alloc: Global, boxes: &[Rect]) -> Result<u16, OutOfMemory>
 ///
 /// More than `MAX_KEPT` components are kept, or there is no memory.
 ///
-/// Time grows with the rows of the page, and with its runs of black pixels times the logarithm of
-/// the most runs of a row. Memory is taken for a mark for each run, a number for each row, a list of
-/// the runs of one component that are still to be visited, and for sorting.
+/// Time grows with the rows of the page and with its runs of black pixels. Memory is taken for a group for each run that
+/// touches none of the row above, for a number for each run of two rows, and for sorting.
 pub fn components(alloc: Global, page: &RunPage) -> Result<Kept, CompFault>
     requires { IsWhole page.now }
     // The page is each one whose pixels these are.

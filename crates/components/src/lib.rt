@@ -3,13 +3,13 @@
 #![tactic(auto)]
 
 mod bounds;
-mod flood;
+mod groups;
 mod kept;
 mod place;
 mod placed_run;
 mod reaching;
+mod rows;
 mod scan;
-mod starts;
 #[cfg(test)]
 mod tests;
 

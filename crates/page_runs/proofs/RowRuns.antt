@@ -2,6 +2,7 @@
 use Rattle.std.proofs.Common.{◌≡◌, ◌<◌, ◌≤◌, ℕ, zero, suc, ◌+◌, ◌-◌, ◌*◌, ◌/◌, ◌%◌, List, [], ◌∷◌, ◌++◌, length, get_or, inl, inr, refl, sym, ap, subst, ◌∙◌, arith}
 use Rattle.std.specs.Int.{bit_at}
 use Rattle.std.proofs.lemmas.Bool.{cases_lt}
+use Rattle.std.proofs.lemmas.Nat.Bits.{bit_at-zero}
 use Rattle.std.proofs.lemmas.List.{append-nil, append_assoc, get_or-append_right, get_or_append_left, length-append}
 use Rattle.packed_rows.specs.Page.{pixel}
 use Rattle.page_runs.specs.declared.row_runs.Run.{Run}
@@ -24,6 +25,30 @@ word_passed value bits word from x place next all is other within bound k left r
       let at : k ≡ x / 8 * 8 + j = omega (arith, here) in
       let less : j < place = omega (arith, here, right, bound) in
       ap (pixel bits) at ∙ sym (is j (omega (arith, less, within))) ∙ other j (omega (arith, here)) less
+]
+
+-- a white word leaves the columns before the next one white
+pub white_passed : (bits : List ℕ) (word from byte : ℕ) → AreAll 0 bits from (byte * 8)
+    → ((k : ℕ) → k < 64 → bit_at word (63 - k) ≡ pixel bits (byte * 8 + k)) → word ≡ 0 → AreAll 0 bits from ((byte + 8) * 8)
+white_passed bits word from byte all is white k left right = elim (cases_lt k (byte * 8)) [
+  | inl passed ↦ all k left passed
+  | inr here ↦
+      let j = k - byte * 8 in
+      let at : k ≡ byte * 8 + j = omega (arith, here) in
+      ap (pixel bits) at ∙ sym (is j (omega (arith, here, right))) ∙ ap (λ (w : ℕ). bit_at w (63 - j)) white ∙ bit_at-zero (63 - j)
+]
+
+-- the white words from the one of a column on
+pub whites_passed : (bits : List ℕ) (word from x byte next stop : ℕ) → AreAll 0 bits from x → byte ≡ x / 8
+    → ((k : ℕ) → k < 64 → bit_at word (63 - k) ≡ pixel bits (byte * 8 + k)) → word ≡ 0
+    → AreAll 0 bits ((byte + 8) * 8) stop → next ≤ stop → AreAll 0 bits from next
+whites_passed bits word from x byte next stop all place is white behind within k left right = elim (cases_lt k x) [
+  | inl passed ↦ all k left passed
+  | inr here ↦ elim (cases_lt k ((byte + 8) * 8)) [
+    | inl in_word ↦
+        white_passed bits word x byte (λ i after before. absurd (omega (arith, after, before, place))) is white k here in_word
+    | inr after ↦ behind k after (omega (arith, right, within))
+  ]
 ]
 
 -- ---- one run more

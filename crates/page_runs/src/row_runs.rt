@@ -4,7 +4,7 @@ ghost use Rattle.packed_rows.specs.Page.{row_len, pixel};
 ghost use Rattle.page_runs.specs.Black.{black_in};
 ghost use Rattle.page_runs.specs.Runs.{AddsRow, Extends};
 
-use crate::row_words::{BLACK, WHITE, WORD_PIXELS, first_in_word, word_at};
+use crate::row_words::{BLACK, WHITE, WORD_PIXELS, behind_white, first_in_word, word_at};
 use layout_limits::{MAX_SIDE, OutOfMemory};
 
 /// Black pixels of a row, from `x0` up to but not including `x1`, as many as follow one another. The row is the one whose
@@ -18,7 +18,8 @@ pub struct Run {
 }
 
 /// The first column from `from` on whose pixel has this colour, 1 for black and 0 for white, or the
-/// width where there is none. A word of eight bytes that has no such pixel is skipped whole.
+/// width where there is none. A word of eight bytes that has no such pixel is skipped whole, and white words, of
+/// which a page has most, are passed over in a loop of their own.
 fn next_pixel(bits: &[u8], from: u16, width: u16, colour: u8) -> u16
     requires colour { colour ≤ 1 }
     requires within { from ≤ width }
@@ -31,11 +32,16 @@ fn next_pixel(bits: &[u8], from: u16, width: u16, colour: u8) -> u16
 {
     let mut x = from;
     while x < width {
-        let word = word_at(bits, usize::from(x / 8));
-        let place = first_in_word(word, x % 8, colour);
-        x = width.min(x / 8 * 8 + place);
-        if place < WORD_PIXELS {
-            return x;
+        let byte = usize::from(x / 8);
+        let word = word_at(bits, byte);
+        if colour == BLACK && word == 0 {
+            x = width.min(8 * behind_white(bits, byte + 8) as u16);
+        } else {
+            let place = first_in_word(word, x % 8, colour);
+            x = width.min(x / 8 * 8 + place);
+            if place < WORD_PIXELS {
+                return x;
+            }
         }
     }
     width

@@ -46,8 +46,22 @@ fn pixels_of(word: u64, colour: u8) -> u64
     if colour == BLACK { word } else { !word }
 }
 
+/// The first byte from `from` on, in steps of a word, whose word is not white, or one behind the row.
+pub(crate) fn behind_white(bits: &[u8], from: usize) -> usize
+    requires within { from < length bits.now + WORD_BYTES }
+    ensures not_before { from ≤ result }
+    ensures bound { result < length bits.now + WORD_BYTES }
+    ensures white { (k : ℕ) → from * 8 ≤ k → k < result * 8 → pixel bits.now k ≡ 0 }
+{
+    let mut byte = from;
+    while byte < bits.len() && word_at(bits, byte) == 0 {
+        byte += WORD_BYTES;
+    }
+    byte
+}
+
 /// The place of the first pixel of this colour in a word, from a place on, or `WORD_PIXELS` where there is
-/// none. A white word, of which a page has most, is passed over at once.
+/// none.
 pub(crate) fn first_in_word(word: u64, from: u16, colour: u8) -> u16
     requires from { from < WORD_PIXELS }
     requires colour { colour ≤ 1 }
@@ -56,9 +70,6 @@ pub(crate) fn first_in_word(word: u64, from: u16, colour: u8) -> u16
     ensures other { (k : ℕ) → from ≤ k → k < result → bit_at word (63 - k) ≡ 1 - colour }
     ensures found { result < WORD_PIXELS → bit_at word (63 - result) ≡ colour }
 {
-    if colour == BLACK && word == 0 {
-        return WORD_PIXELS;
-    }
     let ahead = pixels_of(word, colour) & (u64::MAX >> from);
     ahead.leading_zeros() as u16
 }

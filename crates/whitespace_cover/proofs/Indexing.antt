@@ -3,6 +3,7 @@ use Rattle.std.proofs.Common.{zero, suc, add-one, ◌≡◌, ℕ, ◌+◌, ◌*�
 use Rattle.std.proofs.lemmas.List.{take-append-drop, get_or_past, get_or_default}
 use Rattle.std.proofs.lemmas.List.Elements.{All-contains, Contains-append_left, Contains-append_right, Contains-push, Contains-push_cases, Contains-get_or}
 use Rattle.std.proofs.Math.Seq.{drop-cons}
+use Rattle.std.proofs.Math.Nat.{mul-le-mul_right, mul-le-mul_left}
 use Rattle.std.proofs.lemmas.Bool.{cases_lt}
 use Rattle.layout_geom.specs.declared.rect.Rect.{Rect}
 use Rattle.layout_geom.specs.Rectangles.{HasPixel, HasSides, Overlaps, Encloses, SharesPixel, IsClear}
@@ -98,41 +99,42 @@ module _ (rect : Rect) where
   }
 
   -- the pixels of the rectangle before a column of a row of cells are held
-  abbrev pub TakenInRow : ℕ → List (List Rect) → ℕ → Type 0
-  TakenInRow row lists column = (x y : ℕ) → HasPixel rect x y → y / 64 ≡ row → x / 64 < column → SomeHasPixel (list_at lists (cell_of x y)) x y
+  abbrev pub TakenInRow : ℕ → ℕ → List (List Rect) → ℕ → Type 0
+  TakenInRow across row lists column = (x y : ℕ) → HasPixel rect x y → y / 64 ≡ row → x / 64 < column → SomeHasPixel (list_at lists (cell_of across x y)) x y
 
-  pub row_more : (row column : ℕ) (old : List (List Rect)) (list : List Rect) → row * 128 + column < length old → IsGrown (list_at old (row * 128 + column)) list → ((x y : ℕ) → HasPixel rect x y → x / 64 ≡ column → y / 64 ≡ row → SomeHasPixel list x y) → TakenInRow row old column → TakenInRow row (set old (row * 128 + column) list) (column + 1)
-  row_more row column old list within grown taken so_far x y has in_row before =
+  pub row_more : (across row column : ℕ) (old : List (List Rect)) (list : List Rect) → row * across + column < length old → IsGrown (list_at old (row * across + column)) list → ((x y : ℕ) → HasPixel rect x y → x / 64 ≡ column → y / 64 ≡ row → SomeHasPixel list x y) → TakenInRow across row old column → TakenInRow across row (set old (row * across + column) list) (column + 1)
+  row_more across row column old list within grown taken so_far x y has in_row before =
       ⊎_elim
-      (λ earlier. (adds_one old (row * 128 + column) list within grown).kept (cell_of x y) x y (so_far x y has in_row earlier))
+      (λ earlier. (adds_one old (row * across + column) list within grown).kept (cell_of across x y) x y (so_far x y has in_row earlier))
       (λ here.
       let same : x / 64 ≡ column = omega (arith, here, before) in
-      let at : cell_of x y ≡ row * 128 + column = omega (arith, same, in_row) in
-      subst (λ (k : ℕ). SomeHasPixel (list_at (set old (row * 128 + column) list) k) x y) (sym at)
-      (subst (λ (xs : List Rect). SomeHasPixel xs x y) (sym (set_here old (row * 128 + column) list within)) (taken x y has same in_row)))
+      let at : cell_of across x y ≡ row * across + column = ap (λ (r : ℕ). r * across + x / 64) in_row ∙ ap (λ (c : ℕ). row * across + c) same in
+      subst (λ (k : ℕ). SomeHasPixel (list_at (set old (row * across + column) list) k) x y) (sym at)
+      (subst (λ (xs : List Rect). SomeHasPixel xs x y) (sym (set_here old (row * across + column) list within)) (taken x y has same in_row)))
       (cases_lt (x / 64) column)
 
   -- the pixels of the rectangle before a row of cells are held
-  abbrev pub TakenAbove : List (List Rect) → ℕ → Type 0
-  TakenAbove lists row = (x y : ℕ) → HasPixel rect x y → y / 64 < row → SomeHasPixel (list_at lists (cell_of x y)) x y
+  abbrev pub TakenAbove : ℕ → List (List Rect) → ℕ → Type 0
+  TakenAbove across lists row = (x y : ℕ) → HasPixel rect x y → x / 64 < across → y / 64 < row → SomeHasPixel (list_at lists (cell_of across x y)) x y
 
-  pub above_more : (row : ℕ) (old new : List (List Rect)) → Adds rect old new → ((x y : ℕ) → HasPixel rect x y → y / 64 ≡ row → SomeHasPixel (list_at new (cell_of x y)) x y) → TakenAbove old row → TakenAbove new (row + 1)
-  above_more row old new adds taken so_far x y has before =
+  pub above_more : (across row : ℕ) (old new : List (List Rect)) → Adds rect old new → ((x y : ℕ) → HasPixel rect x y → x / 64 < across → y / 64 ≡ row → SomeHasPixel (list_at new (cell_of across x y)) x y)
+      → TakenAbove across old row → TakenAbove across new (row + 1)
+  above_more across row old new adds taken so_far x y has narrow before =
       ⊎_elim
-      (λ earlier. adds.kept (cell_of x y) x y (so_far x y has earlier))
-      (λ here. taken x y has (omega (arith, here, before)))
+      (λ earlier. adds.kept (cell_of across x y) x y (so_far x y has narrow earlier))
+      (λ here. taken x y has narrow (omega (arith, here, before)))
       (cases_lt (y / 64) row)
 
 -- cells without rectangles are an index of none
-pub index_of_none : (rows : ℕ) (lists : List (List Rect)) → length lists ≡ rows * 128 → All (λ list. list ≡ []) lists → IsIndex rows [] lists
-index_of_none rows lists whole empty = record {
+pub index_of_none : (across rows : ℕ) (lists : List (List Rect)) → length lists ≡ rows * across → All (λ list. list ≡ []) lists → IsIndex across rows [] lists
+index_of_none across rows lists whole empty = record {
   whole = whole;
   only = λ cell r there.
       ⊎_elim
       (λ within. subst (λ (xs : List Rect). Contains xs r) (empty cell [] within) there)
       (λ outside. subst (λ (xs : List Rect). Contains xs r) (get_or_past lists cell [] outside) there)
       (cases_lt cell (length lists));
-  complete = λ x y above held. absurd (held_none x y held);
+  complete = λ x y narrow above held. absurd (held_none x y held);
 }
 
 held_either : (r : Rect) (rects : List Rect) (x y : ℕ) → SomeHasPixel (r ∷ rects) x y → HasPixel r x y ⊎ SomeHasPixel rects x y
@@ -140,24 +142,36 @@ held_either r rects x y (zero, q, within, at, has) = inl (subst (λ (s : Rect). 
 held_either r rects x y (suc k, q, within, at, has) = inr (k, q, omega arith, at, has)
 
 -- one rectangle more, the one before the others
-pub index_more : (rows : ℕ) (rects : List Rect) (i : ℕ) (rect : Rect) (old new : List (List Rect)) → i < length rects → rect ≡ get_or rects i rect → IsIndex rows (drop (i + 1) rects) old → Adds rect old new
-    → ((x y : ℕ) → HasPixel rect x y → y / 64 < rows → SomeHasPixel (list_at new (cell_of x y)) x y) → IsIndex rows (drop i rects) new
-index_more rows rects i rect old new within is index adds taken =
+pub index_more : (across rows : ℕ) (rects : List Rect) (i : ℕ) (rect : Rect) (old new : List (List Rect)) → i < length rects → rect ≡ get_or rects i rect → IsIndex across rows (drop (i + 1) rects) old → Adds rect old new
+    → ((x y : ℕ) → HasPixel rect x y → x / 64 < across → y / 64 < rows → SomeHasPixel (list_at new (cell_of across x y)) x y) → IsIndex across rows (drop i rects) new
+index_more across rows rects i rect old new within is index adds taken =
     let behind : List Rect = drop (i + 1) rects in
     let more : drop i rects ≡ rect ∷ behind = drop-cons rects i rect within ∙ ap (λ (r : Rect). r ∷ drop (suc i) rects) (sym is) ∙ ap (λ (n : ℕ). rect ∷ drop n rects) (sym (add-one i)) in
-    subst (λ (xs : List Rect). IsIndex rows xs new) (sym more) (record {
+    subst (λ (xs : List Rect). IsIndex across rows xs new) (sym more) (record {
       whole = adds.whole ∙ index.whole;
       only = λ cell r there.
           ⊎_elim
           (λ before. Contains-append_right (rect ∷ []) behind r (index.only cell r before))
           (λ last. subst (λ (q : Rect). Contains (rect ∷ behind) q) (sym last) (0, omega arith, refl))
           (adds.only cell r there);
-      complete = λ x y above held.
+      complete = λ x y narrow above held.
           ⊎_elim
-          (λ here. taken x y here above)
-          (λ before. adds.kept (cell_of x y) x y (index.complete x y above before))
+          (λ here. taken x y here narrow above)
+          (λ before. adds.kept (cell_of across x y) x y (index.complete x y narrow above before))
           (held_either rect behind x y held);
     })
+
+-- a row of cells that is there ends within the cells
+pub row_within : (across row rows : ℕ) → row < rows → row * across + across ≤ rows * across
+row_within across row rows below =
+    let next : suc row * across ≤ rows * across = mul-le-mul_right across below in
+    omega (arith, next)
+
+pub few_cells : (across rows : ℕ) → across ≤ 128 → rows ≤ 128 → rows * across ≤ 128 * 128
+few_cells across rows narrow low =
+    let first = mul-le-mul_right across low in
+    let second = mul-le-mul_left 128 narrow in
+    omega (arith, first, second)
 
 -- each place is taken from the middle outwards
 pub from_middle_takes : (first count place : ℕ) → first ≤ place → place < first + count → (k : ℕ) × (k < count) × IsFromMiddle first count k place
@@ -175,13 +189,14 @@ one_place first count k a b one two =
     one
 
 -- a rectangle that is clear of what its cells list is clear of all that the index knows
-pub clear_by_cells : (rows : ℕ) (rects : List Rect) (lists : List (List Rect)) (r : Rect) → r.y1 ≤ rows * 64 → IsIndex rows rects lists → ((x y : ℕ) → HasPixel r x y → IsClear r (list_at lists (cell_of x y))) → IsClear r rects
-clear_by_cells rows rects lists r reaches index clear = λ k d within meets.
+pub clear_by_cells : (across rows : ℕ) (rects : List Rect) (lists : List (List Rect)) (r : Rect) → r.x1 ≤ across * 64 → r.y1 ≤ rows * 64 → IsIndex across rows rects lists
+    → ((x y : ℕ) → HasPixel r x y → IsClear r (list_at lists (cell_of across x y))) → IsClear r rects
+clear_by_cells across rows rects lists r right bottom index clear = λ k d within meets.
     let o : Rect = get_or rects k d in
     let pixel : SharesPixel r o = shares_pixel r o meets in
-    let (j, item, inside, at, has) : SomeHasPixel (list_at lists (cell_of pixel.x pixel.y)) pixel.x pixel.y =
-    index.complete pixel.x pixel.y (omega (arith, reaches, pixel.in_first.to_bottom)) (held_by rects o pixel.x pixel.y (Contains-get_or rects k d within) pixel.in_second) in
-    All-contains (λ box. Overlaps r box → ⊥) (list_at lists (cell_of pixel.x pixel.y)) item (clear pixel.x pixel.y pixel.in_first) (j, inside, at)
+    let (j, item, inside, at, has) : SomeHasPixel (list_at lists (cell_of across pixel.x pixel.y)) pixel.x pixel.y =
+    index.complete pixel.x pixel.y (omega (arith, right, pixel.in_first.to_right)) (omega (arith, bottom, pixel.in_first.to_bottom)) (held_by rects o pixel.x pixel.y (Contains-get_or rects k d within) pixel.in_second) in
+    All-contains (λ box. Overlaps r box → ⊥) (list_at lists (cell_of across pixel.x pixel.y)) item (clear pixel.x pixel.y pixel.in_first) (j, inside, at)
     (overlaps r item (record { x = pixel.x; y = pixel.y; in_first = pixel.in_first; in_second = has }))
 
 -- and with what stands behind these
@@ -203,7 +218,8 @@ pub indexed_inside : (outer r : Rect) (rects : List Rect) (cells : Option Cells)
 indexed_inside outer r rects None inside indexed = tt
 indexed_inside outer r rects (Some cells) inside indexed = record {
   rows = indexed.rows;
-  reaches = omega (arith, indexed.reaches, inside.bottom);
+  right = omega (arith, indexed.right, inside.right);
+  bottom = omega (arith, indexed.bottom, inside.bottom);
   within = indexed.within;
   index = indexed.index;
 }

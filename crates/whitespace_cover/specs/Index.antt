@@ -3,11 +3,11 @@ use Rattle.std.specs.Prelude.{◌≡◌, ℕ, ◌+◌, ◌*◌, ◌/◌, ◌<◌
 use Rattle.layout_geom.specs.declared.rect.Rect.{Rect}
 use Rattle.layout_geom.specs.Rectangles.{HasPixel}
 use Rattle.whitespace_cover.specs.declared.cells.Cells.{Cells}
-use Rattle.whitespace_cover.specs.declared.cells.TheConstants.{CELL_SIDE, CELLS_ACROSS}
+use Rattle.whitespace_cover.specs.declared.cells.TheConstants.{CELL_SIDE}
 
--- the number of the cell of a pixel, row of cells by row
-abbrev pub cell_of : ℕ → ℕ → ℕ
-cell_of x y = y / CELL_SIDE * CELLS_ACROSS + x / CELL_SIDE
+-- the number of the cell of a pixel, row of cells by row, where a row has so many
+abbrev pub cell_of : ℕ → ℕ → ℕ → ℕ
+cell_of across x y = y / CELL_SIDE * across + x / CELL_SIDE
 
 -- the rectangles of a cell
 abbrev pub list_at : List (List Rect) → ℕ → List Rect
@@ -17,18 +17,20 @@ list_at lists cell = slice_index_or lists cell []
 abbrev pub SomeHasPixel : List Rect → ℕ → ℕ → Type 0
 SomeHasPixel rects x y = Any (λ r. HasPixel r x y) rects
 
--- the cells of these rows list no other rectangles than these, and each pixel of these in the rows is in a rectangle that its cell lists
-pub record IsIndex (rows : ℕ) (rects : List Rect) (lists : List (List Rect)) : Type 0 where
-  pub whole : length lists ≡ rows * CELLS_ACROSS
+-- the cells of these rows list no other rectangles than these, and each pixel of these in the cells is in a rectangle that its cell lists
+pub record IsIndex (across rows : ℕ) (rects : List Rect) (lists : List (List Rect)) : Type 0 where
+  pub whole : length lists ≡ rows * across
   pub only : (cell : ℕ) (r : Rect) → Contains (list_at lists cell) r → Contains rects r
-  pub complete : (x y : ℕ) → y / CELL_SIDE < rows → SomeHasPixel rects x y → SomeHasPixel (list_at lists (cell_of x y)) x y
+  pub complete : (x y : ℕ) → x / CELL_SIDE < across → y / CELL_SIDE < rows → SomeHasPixel rects x y
+      → SomeHasPixel (list_at lists (cell_of across x y)) x y
 
--- the cells are an index of the first of the rectangles, as far down as a rectangle reaches
+-- the cells are an index of the first of the rectangles, as far to the right and down as a rectangle reaches
 pub record IsIndexOf (reached : Rect) (rects : List Rect) (cells : Cells) : Type 0 where
   pub rows : ℕ
-  pub reaches : reached.y1 ≤ rows * CELL_SIDE
+  pub right : reached.x1 ≤ cells.across * CELL_SIDE
+  pub bottom : reached.y1 ≤ rows * CELL_SIDE
   pub within : cells.count ≤ length rects
-  pub index : IsIndex rows (take cells.count rects) cells.lists.items
+  pub index : IsIndex cells.across rows (take cells.count rects) cells.lists.items
 
 abbrev pub IsIndexed : Rect → List Rect → Option Cells → Type 0
 IsIndexed reached rects cells = IfSome cells (IsIndexOf reached rects)

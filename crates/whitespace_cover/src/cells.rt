@@ -13,14 +13,16 @@ use std::alloc::Global;
 /// The columns of a cell, and its rows.
 const CELL_SIDE: usize = 64;
 
-/// The cells of a row of cells, as many as the widest pages need; and the most rows of cells.
-const CELLS_ACROSS: usize = MAX_SIDE as usize / CELL_SIDE;
+/// The most cells in a row of cells, and the most rows of cells.
+const MAX_CELLS: usize = MAX_SIDE as usize / CELL_SIDE;
 
-/// An index of the first rectangles of a list, in the rows of cells that a page reaches into.
+/// An index of the first rectangles of a list, in the cells that a page reaches into.
 #[derive(Drop)]
 pub(crate) struct Cells {
     /// How many rectangles it knows.
     pub(crate) count: usize,
+    /// The cells of a row of cells.
+    pub(crate) across: usize,
     /// For each cell, row by row, rectangles that reach into it.
     pub(crate) lists: Vec<Rects>,
 }
@@ -33,12 +35,13 @@ fn cell(pixel: u16) -> usize
 }
 
 /// Rows of cells that list no rectangle.
-fn empty_lists(alloc: Global, rows: usize) -> Result<Vec<Rects>, OutOfMemory>
-    requires { rows ≤ CELLS_ACROSS }
-    ensures count { IfOk result (λ lists. length lists.items ≡ rows * CELLS_ACROSS) }
+fn empty_lists(alloc: Global, across: usize, rows: usize) -> Result<Vec<Rects>, OutOfMemory>
+    requires across { across ≤ MAX_CELLS }
+    requires rows { rows ≤ MAX_CELLS }
+    ensures count { IfOk result (λ lists. length lists.items ≡ rows * across) }
     ensures empty { IfOk result (λ lists. All (λ list. list ≡ []) lists.items) }
 {
-    let count = rows * CELLS_ACROSS;
+    let count = rows * across;
     let mut lists = Vec::with_capacity(alloc, count)?;
     for _ in 0..count {
         lists.push(Rects::new(alloc))?;
@@ -61,8 +64,8 @@ fn some_encloses(rects: &[Rect], part: &Rect) -> bool
 /// Lists a rectangle in a cell that it reaches into, unless one that is listed there has all its pixels in
 /// the cell.
 fn put_in_cell(list: &mut Rects, row: usize, column: usize, rect: &Rect) -> Result<(), OutOfMemory>
-    requires row { row < CELLS_ACROSS }
-    requires column { column < CELLS_ACROSS }
+    requires row { row < MAX_CELLS }
+    requires column { column < MAX_CELLS }
     ensures grown { OnOk result ((list.new ≡ list.old) ⊎ (list.new ≡ list.old ++ rect.now ∷ [])) }
     ensures taken { OnOk result ((x y : ℕ) → HasPixel rect.now x y → x / CELL_SIDE ≡ column → y / CELL_SIDE ≡ row
         → SomeHasPixel list.new x y) }
@@ -83,43 +86,56 @@ fn put_in_cell(list: &mut Rects, row: usize, column: usize, rect: &Rect) -> Resu
     Ok(())
 }
 
-/// Lists a rectangle in the cells of a row.
-fn put_in_row(lists: &mut [Rects], row: usize, rect: &Rect) -> Result<(), OutOfMemory>
-    requires row { row < CELLS_ACROSS }
-    requires there { (row + 1) * CELLS_ACROSS ≤ length lists.old }
+/// Lists a rectangle in the cells of a row that it reaches into, as far as there are.
+fn put_in_row(
+    lists: &mut [Rects],
+    across: usize,
+    row: usize,
+    rect: &Rect,
+) -> Result<(), OutOfMemory>
+    requires across { across ≤ MAX_CELLS }
+    requires row { row < MAX_CELLS }
+    requires there { row * across + across ≤ length lists.old }
     ensures adds { OnOk result (Adds rect.now lists.old lists.new) }
-    ensures taken { OnOk result ((x y : ℕ) → HasPixel rect.now x y → y / CELL_SIDE ≡ row
-        → SomeHasPixel (list_at lists.new (cell_of x y)) x y) }
+    ensures taken { OnOk result ((x y : ℕ) → HasPixel rect.now x y → x / CELL_SIDE < across → y / CELL_SIDE ≡ row
+        → SomeHasPixel (list_at lists.new (cell_of across x y)) x y) }
 {
-    for column in cell(rect.x0())..cell(rect.x1() - 1) + 1 {
-        put_in_cell(&mut lists[row * CELLS_ACROSS + column], row, column, rect)?;
+    for column in cell(rect.x0())..across.min(cell(rect.x1() - 1) + 1) {
+        put_in_cell(&mut lists[row * across + column], row, column, rect)?;
     }
     Ok(())
 }
 
-/// Lists a rectangle in the cells that it reaches into, as far as there are rows of cells.
-fn put(lists: &mut [Rects], rows: usize, rect: &Rect) -> Result<(), OutOfMemory>
-    requires rows { length lists.old ≡ rows * CELLS_ACROSS }
-    requires few { rows ≤ CELLS_ACROSS }
+/// Lists a rectangle in the cells that it reaches into, as far as there are.
+fn put(lists: &mut [Rects], across: usize, rows: usize, rect: &Rect) -> Result<(), OutOfMemory>
+    requires rows { length lists.old ≡ rows * across }
+    requires narrow { across ≤ MAX_CELLS }
+    requires few { rows ≤ MAX_CELLS }
     ensures adds { OnOk result (Adds rect.now lists.old lists.new) }
-    ensures taken { OnOk result ((x y : ℕ) → HasPixel rect.now x y → y / CELL_SIDE < rows
-        → SomeHasPixel (list_at lists.new (cell_of x y)) x y) }
+    ensures taken { OnOk result ((x y : ℕ) → HasPixel rect.now x y → x / CELL_SIDE < across → y / CELL_SIDE < rows
+        → SomeHasPixel (list_at lists.new (cell_of across x y)) x y) }
 {
     for row in cell(rect.y0())..rows.min(cell(rect.y1() - 1) + 1) {
-        put_in_row(lists, row, rect)?;
+        put_in_row(lists, across, row, rect)?;
     }
     Ok(())
 }
 
 /// Lists rectangles in the cells, the last of them first.
-fn put_rects(lists: &mut [Rects], rows: usize, rects: &[Rect]) -> Result<(), OutOfMemory>
-    requires rows { length lists.old ≡ rows * CELLS_ACROSS }
-    requires few { rows ≤ CELLS_ACROSS }
+fn put_rects(
+    lists: &mut [Rects],
+    across: usize,
+    rows: usize,
+    rects: &[Rect],
+) -> Result<(), OutOfMemory>
+    requires rows { length lists.old ≡ rows * across }
+    requires narrow { across ≤ MAX_CELLS }
+    requires few { rows ≤ MAX_CELLS }
     requires empty { All (λ list. list ≡ []) lists.old }
-    ensures { OnOk result (IsIndex rows rects.now lists.new) }
+    ensures { OnOk result (IsIndex across rows rects.now lists.new) }
 {
     for done in 0..rects.len() {
-        put(lists, rows, &rects[rects.len() - 1 - done])?;
+        put(lists, across, rows, &rects[rects.len() - 1 - done])?;
     }
     Ok(())
 }
@@ -127,7 +143,7 @@ fn put_rects(lists: &mut [Rects], rows: usize, rects: &[Rect]) -> Result<(), Out
 /// The k-th of `count` places from `first` on, taken from the middle outwards.
 fn from_middle(first: usize, count: usize, k: usize) -> usize
     requires within { k < count }
-    requires small { first + count ≤ CELLS_ACROSS }
+    requires small { first + count ≤ MAX_CELLS }
     ensures place { IsFromMiddle first count k result }
     ensures low { first ≤ result }
     ensures high { result < first + count }
@@ -141,18 +157,18 @@ fn from_middle(first: usize, count: usize, k: usize) -> usize
 }
 
 /// The pivot of a rectangle in the first cell of a row that has one, from the middle outwards.
-fn pivot_in_row(lists: &[Rects], row: usize, least: u16, rect: &Rect) -> Option<Rect>
-    requires row { row < CELLS_ACROSS }
-    requires there { (row + 1) * CELLS_ACROSS ≤ length lists.now }
+fn pivot_in_row(lists: &[Rects], across: usize, row: usize, least: u16, rect: &Rect) -> Option<Rect>
+    requires wide { rect.now.x1 ≤ across * CELL_SIDE }
+    requires there { row * across + across ≤ length lists.now }
     ensures some { IfSome result (λ pivot. (cell : ℕ) × Contains (list_at lists.now cell) pivot × Overlaps rect.now pivot) }
     ensures none { IfNone result ((x y : ℕ) → HasPixel rect.now x y → y / CELL_SIDE ≡ row
-        → IsClear rect.now (list_at lists.now (cell_of x y))) }
+        → IsClear rect.now (list_at lists.now (cell_of across x y))) }
 {
     let first = cell(rect.x0());
     let count = cell(rect.x1() - 1) + 1 - first;
     for k in 0..count {
         let column = from_middle(first, count, k);
-        let list = &lists[row * CELLS_ACROSS + column];
+        let list = &lists[row * across + column];
         if let Some(pivot) = best_pivot(least, list.as_slice(), rect) {
             return Some(pivot);
         }
@@ -175,25 +191,36 @@ impl Cells {
         ensures { IfOk result (IsIndexOf page.now rects.now) }
     {
         let (front, _) = rects.split_at(count);
+        let across = cell(page.x1() - 1) + 1;
         let rows = cell(page.y1() - 1) + 1;
-        let mut lists = empty_lists(alloc, rows)?;
-        put_rects(&mut lists, rows, front)?;
-        Ok(Cells { count, lists })
+        let mut lists = empty_lists(alloc, across, rows)?;
+        put_rects(&mut lists, across, rows, front)?;
+        Ok(Cells {
+            count,
+            across,
+            lists,
+        })
     }
 }
 
 /// The pivot of a rectangle among those that the cells list: it is looked for from the middle of the
 /// rectangle outwards, and taken from the first cell that has one.
-pub(crate) fn pivot_in_cells(lists: &[Rects], least: u16, rect: &Rect) -> Option<Rect>
-    requires { ((rect.now.y1 - 1) / CELL_SIDE + 1) * CELLS_ACROSS ≤ length lists.now }
+pub(crate) fn pivot_in_cells(
+    lists: &[Rects],
+    across: usize,
+    least: u16,
+    rect: &Rect,
+) -> Option<Rect>
+    requires wide { rect.now.x1 ≤ across * CELL_SIDE }
+    requires high { (row : ℕ) → row ≤ (rect.now.y1 - 1) / CELL_SIDE → row * across + across ≤ length lists.now }
     ensures some { IfSome result (λ pivot. (cell : ℕ) × Contains (list_at lists.now cell) pivot × Overlaps rect.now pivot) }
-    ensures none { IfNone result ((x y : ℕ) → HasPixel rect.now x y → IsClear rect.now (list_at lists.now (cell_of x y))) }
+    ensures none { IfNone result ((x y : ℕ) → HasPixel rect.now x y → IsClear rect.now (list_at lists.now (cell_of across x y))) }
 {
     let first = cell(rect.y0());
     let count = cell(rect.y1() - 1) + 1 - first;
     for k in 0..count {
         let row = from_middle(first, count, k);
-        if let Some(pivot) = pivot_in_row(lists, row, least, rect) {
+        if let Some(pivot) = pivot_in_row(lists, across, row, least, rect) {
             return Some(pivot);
         }
     }

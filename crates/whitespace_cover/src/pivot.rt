@@ -136,7 +136,7 @@ pub(crate) fn pivot_of(
         return scan;
     }
     Scan {
-        pivot: pivot_in_cells(&cells.lists, least, &region.rect),
+        pivot: pivot_in_cells(&cells.lists, cells.across, least, &region.rect),
         mask: scan.mask,
     }
 }

@@ -8,7 +8,7 @@ pub loop-k-preserved : goal.loop-k-preserved
 loop-k-preserved c =
     let first : ℕ = c.cell-first.result in
     let count : ℕ = c.cell.result + 1 - c.cell-first.result in
-    below_more (λ j. (row : ℕ) → IsFromMiddle first count j row → (x y : ℕ) → HasPixel c.args.rect.now x y → y / 64 ≡ row → IsClear c.args.rect.now (list_at c.args.lists.now (cell_of x y))) c.loop-k.k c.loop-k.invariant
+    below_more (λ j. (row : ℕ) → IsFromMiddle first count j row → (x y : ℕ) → HasPixel c.args.rect.now x y → y / 64 ≡ row → IsClear c.args.rect.now (list_at c.args.lists.now (cell_of c.args.across x y))) c.loop-k.k c.loop-k.invariant
     (λ row is x y has in_row.
     c.in_default.ensures.none x y has (in_row ∙ one_place first count c.loop-k.k row c.from_middle-row.result is c.from_middle-row.ensures.place))
 

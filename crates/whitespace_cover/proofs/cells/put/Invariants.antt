@@ -5,5 +5,5 @@ use Rattle.whitespace_cover.proofs.cells.put.Given as goal
 abbrev pub invariant-loop-row : goal.invariant-loop-row
 invariant-loop-row l = record {
   adds : Adds l.rect l.initial.lists l.lists;
-  taken : TakenAbove l.rect l.lists l.row;
+  taken : TakenAbove l.rect l.across l.lists l.row;
 }

@@ -12,5 +12,5 @@ loop-done-preserved c =
     let behind : length rects - c.loop-done.done ≡ i + 1 = omega (arith, c.loop-done-test.true) in
     let at : c.index-rects-rects.result ≡ get_or rects i c.index-rects-rects.result =
     subst (λ (n : ℕ). c.index-rects-rects.result ≡ get_or rects n c.index-rects-rects.result) place c.index-rects-rects.is in
-    index_more c.args.rows rects i c.index-rects-rects.result c.loop-done.lists c.put.new.lists (omega (arith, c.loop-done-test.true)) at
-    (subst (λ (n : ℕ). IsIndex c.args.rows (drop n rects) c.loop-done.lists) behind c.loop-done.invariant) c.in_ok-put.ensures.adds c.in_ok-put.ensures.taken
+    index_more c.args.across c.args.rows rects i c.index-rects-rects.result c.loop-done.lists c.put.new.lists (omega (arith, c.loop-done-test.true)) at
+    (subst (λ (n : ℕ). IsIndex c.args.across c.args.rows (drop n rects) c.loop-done.lists) behind c.loop-done.invariant) c.in_ok-put.ensures.adds c.in_ok-put.ensures.taken
