@@ -9,6 +9,7 @@ use crate::worker::Worker;
 use box_search::{Lease, Space, Take};
 use crossbeam_utils::sync::EventCount;
 use split_frontier::{Shards, SplitPass, SplitTurn};
+use std::hint::spin_loop;
 use std::sync::Wait;
 
 /// What the workers of one search share.
@@ -125,9 +126,10 @@ impl<'a, 's, S: Space, R: Wait, G: Gate> Crew<'a, 's, S, R, G> {
         (if busy { Found::Busy } else { Found::Done }, mine)
     }
 
-    /// Goes round the shards and waits for each turn, and then for news where it found no lease and others have some.
+    /// Goes round the shards again, some times at once, and then so that it waits for each turn, and for news where it
+    /// found no lease and others have some.
     ///
-    /// It looks once it has announced that it will wait, since whoever opens nodes, or ends, tells it afterwards: either
+    /// Before it waits for news it looks once it has announced that it will wait, since whoever opens nodes, or ends, tells it afterwards: either
     /// this look sees what came of it, or the wait ends. It waits for each turn, since two that only tried could each
     /// find the other's turn held, and both sleep.
     pub(crate) fn look_or_wait(
@@ -144,6 +146,10 @@ impl<'a, 's, S: Space, R: Wait, G: Gate> Crew<'a, 's, S, R, G> {
         ensures parts { result.1.view.rest.parts ≡ pass.view.rest.parts }
         ensures named { NamesFound (S.fits self.now.shards.now.problem) self.now.count result.0 result.1.view.rest.leases }
     {
+        if worker.may_look() {
+            spin_loop();
+            return self.go_round(worker, pass, Manner::Trying);
+        }
         let key = self.news.prepare_wait();
         let (found, pass) = self.go_round(worker, pass, Manner::Waiting);
         if let Found::Busy = found {

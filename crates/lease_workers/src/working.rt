@@ -56,7 +56,7 @@ impl<'a, 's, S: Space, R: Wait, G: Gate> Crew<'a, 's, S, R, G> {
             let (found, pass) = self.go_round(worker, pass, Manner::Trying);
             return (Some(found), pass);
         }
-        let (take, pass) = self.finish(worker, pass, lease, parts);
+        let (take, pass) = self.finish(alloc, worker, pass, lease, parts);
         match take {
             None => (None, pass),
             Some(Take::Leased(lease)) => (Some(Found::Leased { home, lease }), pass),
