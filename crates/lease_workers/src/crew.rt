@@ -18,8 +18,12 @@ pub(crate) struct Crew<'a, 's, S: Space, R, G> {
     pub(crate) rt: &'a R,
     pub(crate) space: &'a S,
     pub(crate) shards: &'a Shards<'s, S>,
-    /// How many workers there are, each with a shard.
+    /// How many workers there are.
+    pub(crate) workers: u32,
+    /// How many shards there are.
     pub(crate) count: u32,
+    /// How far the shard of a worker is from that of the one before.
+    pub(crate) stride: u32,
     pub(crate) gate: &'a G,
     /// That nodes were opened, or that a worker ended.
     pub(crate) news: &'a EventCount,
@@ -93,7 +97,7 @@ impl<'a, 's, S: Space, R: Wait, G: Gate> Crew<'a, 's, S, R, G> {
         }
     }
 
-    /// Goes round the shards, its own first, until one has a node to lease.
+    /// Goes round the shards of the workers, its own first, until one has a node to lease.
     pub(crate) fn go_round(
         &self,
         worker: &mut Worker,
@@ -109,12 +113,12 @@ impl<'a, 's, S: Space, R: Wait, G: Gate> Crew<'a, 's, S, R, G> {
         ensures parts { result.1.view.rest.parts ≡ pass.view.rest.parts }
         ensures named { NamesFound (S.fits self.now.shards.now.problem) self.now.count result.0 result.1.view.rest.leases }
     {
-        let own = u64::from(worker.own);
         let count = u64::from(self.count);
+        let stride = u64::from(self.stride);
         let mut mine = pass;
         let mut busy = false;
-        for others in 0..count {
-            let shard = ((own + others) % count) as u32;
+        let mut shard = worker.own;
+        for _ in 0..self.workers {
             let (take, after) = self.look_at(worker, mine, shard, manner);
             mine = after;
             match take {
@@ -122,6 +126,7 @@ impl<'a, 's, S: Space, R: Wait, G: Gate> Crew<'a, 's, S, R, G> {
                 Some(Take::Done) => {}
                 Some(Take::Idle) | None => busy = true,
             }
+            shard = ((u64::from(shard) + stride) % count) as u32;
         }
         (if busy { Found::Busy } else { Found::Done }, mine)
     }

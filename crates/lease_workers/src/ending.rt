@@ -68,7 +68,6 @@ impl<'a, 's, S: Space, R: Wait, G: Gate> Crew<'a, 's, S, R, G> {
                 })
             }
             Step::Split(mut nodes) => {
-                let seen = self.shards.read(pass);
                 keep_above(&mut nodes, seen);
                 Ok(Parts { seen, nodes })
             }
