@@ -97,7 +97,19 @@ impl<'a, 's, S: Space, R: Wait, G: Gate> Crew<'a, 's, S, R, G> {
         }
     }
 
-    /// Goes round the shards of the workers, its own first, until one has a node to lease.
+    /// The shard of the worker that is so many behind the one with this shard, round the end, and shard 0 behind all: the
+    /// root stands there.
+    fn shard_behind(&self, own: u32, others: u32) -> u32
+        requires own { own < self.now.count }
+        ensures there { result < self.now.count }
+    {
+        if others == self.workers {
+            return 0;
+        }
+        own.wrapping_add(others.wrapping_mul(self.stride)) % self.count
+    }
+
+    /// Goes round the shards of the workers, its own first, and that of the root, until one has a node to lease.
     pub(crate) fn go_round(
         &self,
         worker: &mut Worker,
@@ -113,12 +125,11 @@ impl<'a, 's, S: Space, R: Wait, G: Gate> Crew<'a, 's, S, R, G> {
         ensures parts { result.1.view.rest.parts ≡ pass.view.rest.parts }
         ensures named { NamesFound (S.fits self.now.shards.now.problem) self.now.count result.0 result.1.view.rest.leases }
     {
-        let count = u64::from(self.count);
-        let stride = u64::from(self.stride);
+        let own = worker.own;
         let mut mine = pass;
         let mut busy = false;
-        let mut shard = worker.own;
-        for _ in 0..self.workers {
+        for others in 0..self.workers.saturating_add(1) {
+            let shard = self.shard_behind(own, others);
             let (take, after) = self.look_at(worker, mine, shard, manner);
             mine = after;
             match take {
@@ -126,7 +137,6 @@ impl<'a, 's, S: Space, R: Wait, G: Gate> Crew<'a, 's, S, R, G> {
                 Some(Take::Done) => {}
                 Some(Take::Idle) | None => busy = true,
             }
-            shard = ((u64::from(shard) + stride) % count) as u32;
         }
         (if busy { Found::Busy } else { Found::Done }, mine)
     }
