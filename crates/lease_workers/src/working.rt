@@ -110,7 +110,11 @@ impl<'a, 's, S: Space, R: Wait, G: Gate> Crew<'a, 's, S, R, G> {
         ensures unnamed { result.pass.view.rest.leases ≡ [] }
     {
         // The last shard of its stride: the turn word of shard 0 lies beside the bound word, which all read.
-        let own = number.wrapping_add(1).wrapping_mul(self.stride).wrapping_sub(1) % self.count;
+        let own = number
+            .wrapping_add(1)
+            .wrapping_mul(self.stride)
+            .wrapping_sub(1)
+            % self.count;
         let mut worker = Worker::new(number, own);
         let (mut found, mut mine) = self.go_round(&mut worker, pass, Manner::Trying);
         let mut refused = false;
