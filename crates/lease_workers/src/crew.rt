@@ -9,6 +9,7 @@ use crate::worker::Worker;
 use box_search::{Lease, Space, Take};
 use crossbeam_utils::sync::EventCount;
 use split_frontier::{Shards, SplitPass, SplitTurn};
+use std::hint::spin_loop;
 use std::sync::Wait;
 
 /// What the workers of one search share.
@@ -17,8 +18,12 @@ pub(crate) struct Crew<'a, 's, S: Space, R, G> {
     pub(crate) rt: &'a R,
     pub(crate) space: &'a S,
     pub(crate) shards: &'a Shards<'s, S>,
-    /// How many workers there are, each with a shard.
+    /// How many workers there are.
+    pub(crate) workers: u32,
+    /// How many shards there are.
     pub(crate) count: u32,
+    /// How far the shard of a worker is from that of the one before.
+    pub(crate) stride: u32,
     pub(crate) gate: &'a G,
     /// That nodes were opened, or that a worker ended.
     pub(crate) news: &'a EventCount,
@@ -92,7 +97,19 @@ impl<'a, 's, S: Space, R: Wait, G: Gate> Crew<'a, 's, S, R, G> {
         }
     }
 
-    /// Goes round the shards, its own first, until one has a node to lease.
+    /// The shard of the worker that is so many behind the one with this shard, round the end, and shard 0 behind all: the
+    /// root stands there.
+    fn shard_behind(&self, own: u32, others: u32) -> u32
+        requires own { own < self.now.count }
+        ensures there { result < self.now.count }
+    {
+        if others == self.workers {
+            return 0;
+        }
+        own.wrapping_add(others.wrapping_mul(self.stride)) % self.count
+    }
+
+    /// Goes round the shards of the workers, its own first, and that of the root, until one has a node to lease.
     pub(crate) fn go_round(
         &self,
         worker: &mut Worker,
@@ -108,12 +125,11 @@ impl<'a, 's, S: Space, R: Wait, G: Gate> Crew<'a, 's, S, R, G> {
         ensures parts { result.1.view.rest.parts ≡ pass.view.rest.parts }
         ensures named { NamesFound (S.fits self.now.shards.now.problem) self.now.count result.0 result.1.view.rest.leases }
     {
-        let own = u64::from(worker.own);
-        let count = u64::from(self.count);
+        let own = worker.own;
         let mut mine = pass;
         let mut busy = false;
-        for others in 0..count {
-            let shard = ((own + others) % count) as u32;
+        for others in 0..self.workers.saturating_add(1) {
+            let shard = self.shard_behind(own, others);
             let (take, after) = self.look_at(worker, mine, shard, manner);
             mine = after;
             match take {
@@ -125,9 +141,10 @@ impl<'a, 's, S: Space, R: Wait, G: Gate> Crew<'a, 's, S, R, G> {
         (if busy { Found::Busy } else { Found::Done }, mine)
     }
 
-    /// Goes round the shards and waits for each turn, and then for news where it found no lease and others have some.
+    /// Goes round the shards again, some times at once, and then so that it waits for each turn, and for news where it
+    /// found no lease and others have some.
     ///
-    /// It looks once it has announced that it will wait, since whoever opens nodes, or ends, tells it afterwards: either
+    /// Before it waits for news it looks once it has announced that it will wait, since whoever opens nodes, or ends, tells it afterwards: either
     /// this look sees what came of it, or the wait ends. It waits for each turn, since two that only tried could each
     /// find the other's turn held, and both sleep.
     pub(crate) fn look_or_wait(
@@ -144,6 +161,10 @@ impl<'a, 's, S: Space, R: Wait, G: Gate> Crew<'a, 's, S, R, G> {
         ensures parts { result.1.view.rest.parts ≡ pass.view.rest.parts }
         ensures named { NamesFound (S.fits self.now.shards.now.problem) self.now.count result.0 result.1.view.rest.leases }
     {
+        if worker.may_look() {
+            spin_loop();
+            return self.go_round(worker, pass, Manner::Trying);
+        }
         let key = self.news.prepare_wait();
         let (found, pass) = self.go_round(worker, pass, Manner::Waiting);
         if let Found::Busy = found {

@@ -2,13 +2,15 @@
 //! or one of its own shard, which adopts the nodes, and one of the home.
 ghost use Rattle.std.specs.Prelude.{◌≡◌, ◌≢◌, ◌<◌, ◌≤◌, ◌∷◌, [], All, IfOk, IfSome, IfNone};
 ghost use Rattle.box_search.specs.Leasing.{above};
+ghost use Rattle.box_search.specs.Shapes.{size};
 ghost use Rattle.frontier_turn.specs.Holding.{Replaces};
 ghost use Rattle.split_frontier.specs.Callers.{IsOwn};
 ghost use Rattle.split_frontier.specs.Claims.{unspent, spent};
 ghost use Rattle.split_frontier.specs.Holding.{NamesOnly};
 
-use crate::crew::{Crew, lease_and_leave};
+use crate::crew::Crew;
 use crate::gate::Gate;
+use crate::onward::lease_worthy;
 use crate::worker::Worker;
 use bound_word::BoundWord;
 use box_search::{Lease, Node, Space, Step, Take, Unfinished};
@@ -47,6 +49,7 @@ impl<'a, 's, S: Space, R: Wait, G: Gate> Crew<'a, 's, S, R, G> {
         ensures rest { pass.new.view.rest ≡ pass.old.view.rest }
         ensures seen { IfOk result (λ found. found.seen ≤ pass.new.view.seen) }
         ensures fits { IfOk result (λ found. All (S.fits self.now.shards.now.problem) found.nodes.items) }
+        ensures smaller { IfOk result (λ found. All (λ part. size part.shape < size node.now.shape) found.nodes.items) }
         ensures replaces { let p = self.now.shards.now.problem in
             IfOk result (λ found. Replaces (S.admits p) (S.lies_in p) node.now.shape found.seen found.nodes.items) }
     {
@@ -65,17 +68,18 @@ impl<'a, 's, S: Space, R: Wait, G: Gate> Crew<'a, 's, S, R, G> {
                 })
             }
             Step::Split(mut nodes) => {
-                let seen = self.shards.read(pass);
                 keep_above(&mut nodes, seen);
                 Ok(Parts { seen, nodes })
             }
         }
     }
 
-    /// Ends a lease of the worker's own shard in a turn, and leases the next node in the same turn. Where there is no
-    /// memory the lease goes back, and nothing is leased. It wakes others for the nodes that it opened beyond its own.
+    /// Ends a lease of the worker's own shard in a turn, and leases the next node that is worth a step in the same turn.
+    /// Where there is no memory the lease goes back, and nothing is leased. It wakes others for the nodes that it opened
+    /// beyond its own.
     pub(crate) fn finish(
         &self,
+        alloc: Global,
         worker: &mut Worker,
         pass: SplitPass<S>,
         lease: Lease<S::Work>,
@@ -87,6 +91,7 @@ impl<'a, 's, S: Space, R: Wait, G: Gate> Crew<'a, 's, S, R, G> {
         requires fit { S.fits self.now.shards.now.problem lease.node }
         requires seen { parts.seen ≤ pass.view.seen }
         requires fits { All (S.fits self.now.shards.now.problem) parts.nodes.items }
+        requires smaller { All (λ part. size part.shape < size lease.node.shape) parts.nodes.items }
         requires replaces { let p = self.now.shards.now.problem in
             Replaces (S.admits p) (S.lies_in p) lease.node.shape parts.seen parts.nodes.items }
         ensures worker { worker.new.own ≡ worker.old.own }
@@ -99,10 +104,11 @@ impl<'a, 's, S: Space, R: Wait, G: Gate> Crew<'a, 's, S, R, G> {
         worker.pass_gate(self.gate);
         let Parts { seen, nodes } = parts;
         let opened = nodes.len();
+        let cut = lease.node.shape;
         let mut turn = self.shards.enter(self.rt, pass, worker.own);
         match turn.finish(lease, nodes, seen) {
             Ok(()) => {
-                let (take, after) = lease_and_leave(turn);
+                let (take, after) = lease_worthy(alloc, turn, cut, seen);
                 self.wake(opened.saturating_sub(1));
                 (Some(take), after)
             }

@@ -5,6 +5,7 @@
 mod crew;
 mod ending;
 mod gate;
+mod onward;
 mod worker;
 mod workers;
 mod working;

@@ -1,6 +1,7 @@
 //! The search by several workers.
 ghost use Rattle.std.specs.Prelude.{◌≡◌, ◌+◌, ◌≤◌, [], IfOk};
 ghost use Rattle.std.specs.Thread.{IsSync};
+ghost use Rattle.layout_limits.specs.declared.TheConstants.{MAX_WORKERS};
 ghost use Rattle.box_search.specs.Search.{IsSound, IsGreatestKey};
 ghost use Rattle.split_frontier.specs.Callers.{IsOwn};
 
@@ -76,13 +77,16 @@ impl<'g, R: Threads + Wait + Sync, G: Gate> Workers<'g, R, G> {
     {
         each_step_keeps_the_rule::<S>();
         let root = space.root(alloc)?;
-        let (shards, pass) = Shards::start(alloc, space, root, self.count)?;
+        let used = shards_of(self.count);
+        let (shards, pass) = Shards::start(alloc, space, root, used.shards)?;
         let news = EventCount::new();
         let crew = Crew {
             rt: run,
             space,
             shards: &shards,
-            count: self.count,
+            workers: self.count,
+            count: used.shards,
+            stride: used.stride,
             gate: self.gate,
             news: &news,
         };
@@ -112,6 +116,28 @@ impl<'g, R: Threads + Wait + Sync, G: Gate> Workers<'g, R, G> {
             Err(OutOfMemory)
         }
     }
+}
+
+/// How many shards some workers have, and how far those of two workers that follow one another are apart.
+#[derive(Clone, Copy, Debug)]
+struct Spread {
+    shards: u32,
+    stride: u32,
+}
+
+/// The shards of so many workers. Only each `stride`th of them is used, so that what two workers write in their turns
+/// lies, for up to eight of them, in two lines of the cache.
+fn shards_of(workers: u32) -> Spread
+    requires counts { (1 ≤ workers) × (workers ≤ MAX_WORKERS) }
+    ensures shards { (workers ≤ result.shards) × (result.shards ≤ MAX_WORKERS) }
+{
+    let (shards, stride) = match workers {
+        0..=8 => (workers * 8, 8),
+        9..=16 => (workers * 4, 4),
+        17..=32 => (workers * 2, 2),
+        _ => (workers, 1),
+    };
+    Spread { shards, stride }
 }
 
 /// Works with `count` workers from the number `first` on, each with a share of the pass, and joins their passes.

@@ -1,5 +1,5 @@
 //! What one worker does: it looks for a lease, takes the step at its node, ends the lease, and looks again.
-ghost use Rattle.std.specs.Prelude.{◌≡◌, ◌<◌, [], IfSome, IfNone};
+ghost use Rattle.std.specs.Prelude.{◌≡◌, ◌<◌, ◌≤◌, [], IfSome, IfNone};
 ghost use Rattle.split_frontier.specs.Callers.{IsOwn};
 ghost use Rattle.lease_workers.specs.Finding.{NamesLease, NamesFound};
 
@@ -56,7 +56,7 @@ impl<'a, 's, S: Space, R: Wait, G: Gate> Crew<'a, 's, S, R, G> {
             let (found, pass) = self.go_round(worker, pass, Manner::Trying);
             return (Some(found), pass);
         }
-        let (take, pass) = self.finish(worker, pass, lease, parts);
+        let (take, pass) = self.finish(alloc, worker, pass, lease, parts);
         match take {
             None => (None, pass),
             Some(Take::Leased(lease)) => (Some(Found::Leased { home, lease }), pass),
@@ -99,17 +99,23 @@ impl<'a, 's, S: Space, R: Wait, G: Gate> Crew<'a, 's, S, R, G> {
 
     /// Works until no shard has anything left, or until memory is refused. Then no lease is named, and it wakes all that
     /// wait: nothing is left, or a node is open again.
-    pub(crate) fn work(&self, alloc: Global, own: u32, pass: SplitPass<S>) -> Ended<S>
+    pub(crate) fn work(&self, alloc: Global, number: u32, pass: SplitPass<S>) -> Ended<S>
         requires shards { self.now.count ≡ self.now.shards.now.shards }
         requires space { self.now.shards.now.problem ≡ S.problem self.now.space.now }
-        requires worker { own < self.now.count }
+        requires some { 1 ≤ self.now.count }
         requires own { IsOwn self.now.shards.now pass }
         requires unnamed { pass.view.rest.leases ≡ [] }
         ensures own { IsOwn self.now.shards.now result.pass }
         ensures parts { result.pass.view.rest.parts ≡ pass.view.rest.parts }
         ensures unnamed { result.pass.view.rest.leases ≡ [] }
     {
-        let mut worker = Worker::new(own);
+        // The last shard of its stride: the turn word of shard 0 lies beside the bound word, which all read.
+        let own = number
+            .wrapping_add(1)
+            .wrapping_mul(self.stride)
+            .wrapping_sub(1)
+            % self.count;
+        let mut worker = Worker::new(number, own);
         let (mut found, mut mine) = self.go_round(&mut worker, pass, Manner::Trying);
         let mut refused = false;
         for _ in self.rt.forever() {

@@ -1,5 +1,5 @@
 -- What the calls of a turn do to the leases that its pass names, as contracts see it.
-use Rattle.std.proofs.Common.{◌≡◌, ◌≢◌, ◌≤◌, ◌∷◌, ◌++◌, ℕ, List, ℤ, Bool, true, false, refl, ap, sym, ◌∙◌, subst, All, Contains, IsPermutation}
+use Rattle.std.proofs.Common.{◌≡◌, ◌≢◌, ◌≤◌, [], ◌∷◌, ◌++◌, ℕ, List, ℤ, Bool, true, false, refl, ap, sym, ◌∙◌, subst, All, Contains, IsPermutation}
 use Rattle.atomic_table.specs.Seated.{TableId}
 use Rattle.box_search.specs.Contents.{Contents}
 use Rattle.box_search.specs.Leasing.{entry_of, above, Reopens, Ends}
@@ -13,7 +13,7 @@ use Rattle.split_frontier.specs.declared.view.Claim.{Claim}
 use Rattle.split_frontier.specs.Claims.{claim_of, claims_after, unspent, spent, without}
 use Rattle.split_frontier.specs.Holding.{ShardHold, IsTurn, Unnames, Spends}
 use Rattle.split_frontier.specs.Steps.{Seated, MayReturn}
-use Rattle.split_frontier.proofs.Leases.{differ_now, is_out, ended, finished, reopened, adopted}
+use Rattle.split_frontier.proofs.Leases.{differ_now, is_out, ended, finished, reopened, adopted, passed_over, cleared}
 use Rattle.split_frontier.proofs.Named.{parted}
 use Rattle.split_frontier.proofs.Turns.{goes_on}
 
@@ -65,6 +65,23 @@ module _ {W : Type 0} (admits : List ℤ → ℕ → Type 0) (lies_in : List ℤ
   pub reopened_here : (f' : Contents W) (n' : Naming) (l : Lease W) → Contains t.leases (unspent t.shard l) → fits t.view.rest.problem l.node → after n' ≡ without shard l.number claims → Reopens f l f' → Goes f' n'
   reopened_here f' n' l named fit now step = goes_with f' n' (without shard l.number claims) now
       (reopened (admits p) (lies_in p) (fits p) me.0 shard turn.leased turn.differ f f' claims l (there false l named) turn.may_return (subst (λ (q : List ℤ). fits q l.node) same fit) step)
+
+  -- a lease is passed over
+  pub passed_here : (f' : Contents W) (n' : Naming) (l : Lease W) (seen : ℕ) → Contains t.leases (unspent t.shard l) → seen ≤ t.view.seen
+      → Replaces (admits t.view.rest.problem) (lies_in t.view.rest.problem) l.node.shape seen t.frontier.open_nodes → after n' ≡ without shard l.number claims → Ends f l f' → Goes f' n'
+  passed_here f' n' l seen named below replaces now step = goes_with f' n' (without shard l.number claims) now
+      (passed_over (admits p) (lies_in p) (fits p) me.0 shard turn.leased turn.differ f f' claims l seen (there false l named) turn.may_return
+      (subst (λ (h : ShardHold W). seen ≤ h.view.seen) (sym is) below)
+      (subst (λ (q : List ℤ). Replaces (admits q) (lies_in q) l.node.shape seen f.open_nodes) same
+      (subst (λ (c : Contents W). Replaces (admits t.view.rest.problem) (lies_in t.view.rest.problem) l.node.shape seen c.open_nodes) (ap (λ (h : ShardHold W). h.frontier) (sym is)) replaces)) step)
+
+  -- all open nodes are dropped
+  pub cleared_here : BoundsKeys (admits p) (lies_in p) (fits p) → (f' : Contents W) (seen : ℕ) → seen ≤ t.view.seen → All (λ (node : Node W). node.bound ≤ seen) t.frontier.open_nodes
+      → f'.open_nodes ≡ [] → f'.leased ≡ f.leased → Goes f' n
+  cleared_here bounded f' seen below low none kept = goes_with f' n claims refl
+      (cleared (admits p) (lies_in p) (fits p) me.0 shard turn.leased turn.differ bounded f f' claims seen turn.may_return
+      (subst (λ (h : ShardHold W). seen ≤ h.view.seen) (sym is) below)
+      (subst (λ (h : ShardHold W). All (λ (node : Node W). node.bound ≤ seen) h.frontier.open_nodes) (sym is) low) none kept)
 
   module _ (bounded : BoundsKeys (admits p) (lies_in p) (fits p)) (f' : Contents W) (n' : Naming) (l : Lease W) (nodes : List (Node W)) (seen : ℕ) (below : seen ≤ t.view.seen) (fitting : All (fits t.view.rest.problem) nodes)
       (replaces : Replaces (admits t.view.rest.problem) (lies_in t.view.rest.problem) l.node.shape seen nodes) (opened : IsPermutation (above seen nodes ++ f.open_nodes) f'.open_nodes) where

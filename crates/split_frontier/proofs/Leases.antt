@@ -1,8 +1,8 @@
 -- What the holder of a shard's turn does with leases leaves it free to give the frontier back.
-use Rattle.std.proofs.Common.{◌≡◌, ℕ, ◌≤◌, ◌≢◌, ◌⊎◌, List, ◌∷◌, ◌++◌, Bool, true, false, cond, sym, refl, ap, ◌∙◌, inl, inr, subst, arith, rules, Any, Contains}
+use Rattle.std.proofs.Common.{◌≡◌, ℕ, ◌≤◌, ◌≢◌, ◌⊎◌, List, [], ◌∷◌, ◌++◌, Bool, true, false, cond, sym, refl, ap, ◌∙◌, inl, inr, subst, arith, rules, Any, Contains}
 use Rattle.std.specs.Prelude.{All, IsPermutation}
 use Rattle.std.proofs.lemmas.List.Sorted.{All-permutation}
-use Rattle.std.proofs.lemmas.List.Elements.{All-cons, All-tail}
+use Rattle.std.proofs.lemmas.List.Elements.{All-nil, All-cons, All-tail, All-contains}
 use mathlib.Core.Logic.{dite}
 use native.Mathlib.Decide.{ℕ_discrete}
 use Rattle.box_search.specs.Contents.{Contents}
@@ -150,6 +150,38 @@ module _ {W : Type 0} (admits : ℕ → Type 0) (lies_in : ℕ → Shape → Typ
       (λ k fair at. absurd (apart at.unspent)) where
         apart : true ≡ false → ⊥
         apart e = absurd (search rules)
+
+  -- a lease ends whose keys are seen, or open beside it, and nothing else changes
+  pub passed_over : (old new : Contents W) (cs : List Claim) (l : Lease W) (seen : ℕ) → Contains cs (unspent shard l) → Back old cs → seen ≤ v.seen
+      → Replaces admits lies_in l.node.shape seen old.open_nodes → Ends old l new → Back new (without shard l.number cs)
+  passed_over old new cs l seen there back low replaces step = ends_lease old new cs l (unspent shard l) refl refl there step.leased back
+      (λ k. subst (Any (AtNode lies_in k)) (sym step.opened))
+      (subst (All fits) (sym step.opened) back.fitting)
+      (λ k fair at. elim (replaces k fair at.inside) [
+        | inl le ↦ inl (omega arith)
+        | inr node ↦ inr (subst (Any (AtNode lies_in k)) (sym step.opened) node)
+      ])
+
+  -- all open nodes are dropped, none of which is above what was seen
+  pub cleared : BoundsKeys admits lies_in fits → (old new : Contents W) (cs : List Claim) (seen : ℕ) → Back old cs → seen ≤ v.seen
+      → All (λ (node : Node W). node.bound ≤ seen) old.open_nodes → new.open_nodes ≡ [] → new.leased ≡ old.leased → Back new cs
+  cleared law old new cs seen back low bounds none same = record {
+    covers = λ k fair in_taken. elim (back.covers k fair in_taken) [
+      | inl le ↦ inl le
+      | inr (inl node) ↦
+          let (i, one, within, at, inside) = in_nodes lies_in k old node in
+          let there : Contains old.open_nodes one = (i, within, at) in
+          let bound = law one k (All-contains fits old.open_nodes one back.fitting there) fair inside in
+          let top = All-contains (λ (n : Node W). n.bound ≤ seen) old.open_nodes one bounds there in
+          inl (omega arith)
+      | inr (inr claimed) ↦ inr (inr claimed)
+    ];
+    fitting = subst (All fits) (sym none) (All-nil fits);
+    others = λ h. let beside = back.others h in let kept : total h new.leased ≡ total h old.leased = ap (total h) same in omega arith;
+    foreign = back.foreign;
+    spent = back.spent;
+    numbers = subst NumbersDiffer (sym same) back.numbers;
+  }
 
   module _ (law : BoundsKeys admits lies_in fits) (old new : Contents W) (cs : List Claim) (l : Lease W) (nodes : List (Node W)) (seen : ℕ)
       (back : Back old cs) (low : seen ≤ v.seen) (fit : All fits nodes) (replaces : Replaces admits lies_in l.node.shape seen nodes) (opened : IsPermutation (above seen nodes ++ old.open_nodes) new.open_nodes) where

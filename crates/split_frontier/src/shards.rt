@@ -18,10 +18,11 @@ use crate::view::{Rest, View};
 use atomic_table::{Refused, Table};
 use bound_word::BoundWord;
 use box_search::{Frontier, Node, Space};
-use crossbeam_utils::sync::EventCount;
+use crossbeam_utils::sync::{EventCount, Key};
 use frontier_turn::Closed;
 use layout_limits::{MAX_WORKERS, OutOfMemory};
 use std::alloc::Global;
+use std::hint::spin_loop;
 use std::marker::{Model, PhantomData};
 use std::snapshot::Snapshot;
 use std::sync::Wait;
@@ -85,6 +86,34 @@ fn events(alloc: Global, shards: usize) -> Result<Vec<EventCount>, OutOfMemory>
         made.push(EventCount::new())?;
     }
     Ok(made)
+}
+
+/// How often a turn is asked for before its caller sleeps. A turn takes less than a microsecond, and to sleep and to be
+/// woken takes many.
+const TRIES: u32 = 64;
+
+/// For how many looks of a processor a caller pauses between two tries.
+const PAUSE: u32 = 8;
+
+/// Announces a wait at each `TRIES`th try.
+fn announce(given: &EventCount, tries: u32) -> Option<Key<'_>> {
+    if tries % TRIES == 0 {
+        Some(given.prepare_wait())
+    } else {
+        None
+    }
+}
+
+/// Waits where that was announced, and else pauses.
+fn wait_or_pause<R: Wait>(rt: &R, key: Option<Key<'_>>) {
+    match key {
+        Some(key) => key.wait(rt),
+        None => {
+            for _ in 0..PAUSE {
+                spin_loop();
+            }
+        }
+    }
 }
 
 impl<'s, S: Space> Shards<'s, S> {
@@ -157,9 +186,9 @@ impl<'s, S: Space> Shards<'s, S> {
         })
     }
 
-    /// Tries until it has the turn of the shard, and sleeps between tries until that turn is given back. It tries once
-    /// more when it has announced that it will wait, so that no turn is missed. It may wait; what it promises holds if it
-    /// returns.
+    /// Tries until it has the turn of the shard. It pauses between tries, since a turn is mostly short, and after some of
+    /// them sleeps until that turn is given back: before such a try it has announced that it will wait, so that no turn is
+    /// missed. It may wait; what it promises holds if it returns.
     pub fn enter<'a, R: Wait>(&'a self, rt: &R, pass: SplitPass<S>, shard: u32) -> SplitTurn<'a, S>
         requires own { IsOwn self.now pass }
         requires there { shard < self.now.shards }
@@ -172,17 +201,15 @@ impl<'s, S: Space> Shards<'s, S> {
     {
         let given = &self.given[shard as usize];
         let mut waiting = pass;
+        let mut tries = 0u32;
         for _ in rt.forever() {
+            tries = tries.wrapping_add(1);
+            let key = announce(given, tries);
             match self.try_enter(waiting, shard) {
                 Ok(turn) => return turn,
                 Err(back) => waiting = back,
             }
-            let key = given.prepare_wait();
-            match self.try_enter(waiting, shard) {
-                Ok(turn) => return turn,
-                Err(back) => waiting = back,
-            }
-            key.wait(rt);
+            wait_or_pause(rt, key);
         }
         unreachable!()
     }

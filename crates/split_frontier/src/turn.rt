@@ -1,5 +1,5 @@
 //! The turn of a shard: its frontier is with one pass.
-ghost use Rattle.std.specs.Prelude.{◌≡◌, ◌≢◌, ◌≤◌, ◌∷◌, All, Contains, OnOk, OnErr, IfErr};
+ghost use Rattle.std.specs.Prelude.{◌≡◌, ◌≢◌, ◌<◌, ◌≤◌, ◌∷◌, [], length, All, Contains, OnOk, OnErr, IfOk, IfErr, IsTrue, IsFalse};
 ghost use Rattle.box_search.specs.Leasing.{Takes, Finishes, Reopens, Adds, Ends};
 ghost use Rattle.frontier_turn.specs.Holding.{TakesFitting, Replaces};
 ghost use Rattle.frontier_turn.specs.Snapshots.{snapshot_of};
@@ -14,6 +14,8 @@ use crate::view::{Claim, View};
 use atomic_table::Seat;
 use box_search::{Entry, Frontier, Lease, Node, Space, Take, Unfinished};
 use crossbeam_utils::sync::EventCount;
+use layout_limits::OutOfMemory;
+use std::alloc::Global;
 use std::marker::Model;
 use std::snapshot::Snapshot;
 
@@ -179,6 +181,47 @@ impl<'a, S: Space> SplitTurn<'a, S> {
         let number = lease.number;
         self.frontier.end(lease);
         self.naming.unname(self.shard, number);
+    }
+
+    /// Ends an unspent lease of this shard, and opens nothing, where its node is worth no step: each admitted key of its
+    /// shape is at most `seen`, which the pass has seen, or lies in the shape of a node that is open here. It can't fail,
+    /// and takes no memory.
+    pub fn pass_over(&mut self, surplus: Lease<S::Work>, seen: u64)
+        requires named { Contains self.old.leases (unspent self.old.shard surplus) }
+        requires seen { seen ≤ self.old.view.seen }
+        requires open { let p = self.old.view.rest.problem in
+            Replaces (S.admits p) (S.lies_in p) surplus.node.shape seen self.old.frontier.open_nodes }
+        ensures table { self.new.table_id ≡ self.old.table_id }
+        ensures shard { self.new.shard ≡ self.old.shard }
+        ensures view { self.new.view ≡ self.old.view }
+        ensures frontier { Ends self.old.frontier surplus self.new.frontier }
+        ensures names { Unnames self.old.leases (unspent self.old.shard surplus) self.new.leases }
+    {
+        let number = surplus.number;
+        self.frontier.end(surplus);
+        self.naming.unname(self.shard, number);
+    }
+
+    /// Drops all open nodes, none of which is above `seen`, where no node of this shard is leased, and says whether it
+    /// did. It costs less than to take them out one by one. Its refusal is want of memory: the turn is as before.
+    pub fn clear(&mut self, alloc: Global, seen: u64) -> Result<bool, OutOfMemory>
+        requires seen { seen ≤ self.old.view.seen }
+        requires low { All (λ node. node.bound ≤ seen) self.old.frontier.open_nodes }
+        ensures table { self.new.table_id ≡ self.old.table_id }
+        ensures shard { self.new.shard ≡ self.old.shard }
+        ensures view { self.new.view ≡ self.old.view }
+        ensures leases { self.new.leases ≡ self.old.leases }
+        ensures cleared { IfOk result (λ done. IsTrue done → (self.old.frontier.leased ≡ [])
+            × (self.new.frontier.open_nodes ≡ []) × (self.new.frontier.leased ≡ [])) }
+        ensures held { IfOk result (λ done. IsFalse done → (0 < length self.old.frontier.leased)
+            × (self.new.frontier ≡ self.old.frontier)) }
+        ensures err { OnErr result (self.new.frontier ≡ self.old.frontier) }
+    {
+        if self.frontier.out() > 0 {
+            return Ok(false);
+        }
+        self.frontier = Frontier::new(alloc, None)?;
+        Ok(true)
     }
 
     /// Brings the frontier home, gives the turn back, wakes one caller that waits for it, and hands the pass back. The
