@@ -1,5 +1,5 @@
 -- The greatest key of several lines.
-use Rattle.std.proofs.Common.{◌≡◌, ℕ, ◌+◌, ◌<◌, ◌≤◌, ◌⊎◌, inl, inr, ⊎_elim, max, ℤ, pos, ◌+ℤ◌, ◌<ℤ◌, arith, refl, sym, subst}
+use Rattle.std.proofs.Common.{◌≡◌, ℕ, ◌+◌, ◌<◌, ◌≤◌, ◌⊎◌, inl, inr, ⊎_elim, max, ℤ, pos, ◌+ℤ◌, ◌≤ℤ◌, ◌<ℤ◌, arith, refl, sym, subst}
 use Rattle.std.proofs.lemmas.Int.{ints, by_lt_z}
 use Rattle.std.proofs.lemmas.Bool.{cases_lt}
 use Rattle.box_search.specs.Search.{IsGreatestKey}
@@ -178,3 +178,85 @@ module _ (page : LivingPage) (least : ℕ) (stretch : Stretch) where
   -- all offsets
   pub offset_all : (n before key : ℕ) → n ≡ stretch.offsets → IsGreaterKey (IsKeyIn page least (first_of stretch n)) before key → IsGreaterKey (IsKeyIn page least stretch) before key
   offset_all n before key last all = subst (λ (k : ℕ). IsGreaterKey (IsKeyIn page least (first_of stretch k)) before key) last all
+
+-- a line that comes first is one of them
+pub begun_with : (P Q : ℕ → Type 0) (before first word : ℕ) → ((k : ℕ) → P k → Q k) → IsGreaterKey P before first → IsGreaterKey Q first word → IsGreaterKey Q before word
+begun_with P Q before first word among = both_since P Q Q before first word among (λ k some. some) (λ k some. inl some)
+
+-- the lines of one depth of a stretch
+abbrev pub row_at : Stretch → ℕ → Stretch
+row_at stretch depth = record stretch { shallowest = depth; deepest = depth }
+
+-- some line of the stretch has the key, of a depth before one
+pub record IsKeyAbove (page : LivingPage) (least : ℕ) (stretch : Stretch) (to key : ℕ) : Type 0 where
+  pub offset : ℤ
+  pub from_offset : stretch.from ≤ℤ offset
+  pub to_offset : offset <ℤ (stretch.from +ℤ pos stretch.offsets)
+  pub of : IsKeyAmong page least stretch.slope offset stretch.shallowest to key
+
+module _ (page : LivingPage) (least : ℕ) (stretch : Stretch) where
+  pub no_row : (before : ℕ) → IsGreaterKey (IsKeyAbove page least stretch stretch.shallowest) before before
+  no_row before = none_since (IsKeyAbove page least stretch stretch.shallowest) before (λ k above. absurd (omega (arith, above.of.from_depth, above.of.to_depth)))
+
+  row_cases : (to key : ℕ) → IsKeyAbove page least stretch (to + 1) key → IsKeyIn page least (row_at stretch to) key ⊎ IsKeyAbove page least stretch to key
+  row_cases to key above = ⊎_elim
+      (λ less. inr (record {
+        offset = above.offset;
+        from_offset = above.from_offset;
+        to_offset = above.to_offset;
+        of = record { depth = above.of.depth; from_depth = above.of.from_depth; to_depth = less; at = above.of.at };
+      }))
+      (λ more. inl (record {
+        offset = above.offset;
+        from_offset = above.from_offset;
+        to_offset = above.to_offset;
+        of = record { depth = above.of.depth; from_depth = more; to_depth = omega (arith, above.of.to_depth); at = above.of.at };
+      }))
+      (cases_lt above.of.depth to)
+
+  -- one more depth
+  pub row_more : (to before best more : ℕ) → stretch.shallowest ≤ to → IsGreaterKey (IsKeyAbove page least stretch to) before best
+      → IsGreaterKey (IsKeyIn page least (row_at stretch to)) best more → IsGreaterKey (IsKeyAbove page least stretch (to + 1)) before more
+  row_more to before best more low =
+      both_since (IsKeyAbove page least stretch to) (IsKeyIn page least (row_at stretch to)) (IsKeyAbove page least stretch (to + 1)) before best more
+      (λ k above. record {
+        offset = above.offset;
+        from_offset = above.from_offset;
+        to_offset = above.to_offset;
+        of = record { depth = above.of.depth; from_depth = above.of.from_depth; to_depth = omega (arith, above.of.to_depth); at = above.of.at };
+      })
+      (λ k is. record {
+        offset = is.offset;
+        from_offset = is.from_offset;
+        to_offset = is.to_offset;
+        of = record { depth = is.of.depth; from_depth = omega (arith, low, is.of.from_depth); to_depth = omega (arith, is.of.to_depth); at = is.of.at };
+      })
+      (row_cases to)
+
+  -- all depths
+  pub row_all : (to before key : ℕ) → to ≡ stretch.deepest + 1 → IsGreaterKey (IsKeyAbove page least stretch to) before key → IsGreaterKey (IsKeyIn page least stretch) before key
+  row_all to before key last all =
+      renamed_since (IsKeyAbove page least stretch to) (IsKeyIn page least stretch) before key
+      (λ k above. record {
+        offset = above.offset;
+        from_offset = above.from_offset;
+        to_offset = above.to_offset;
+        of = record { depth = above.of.depth; from_depth = above.of.from_depth; to_depth = omega (arith, last, above.of.to_depth); at = above.of.at };
+      })
+      (λ k is. record {
+        offset = is.offset;
+        from_offset = is.from_offset;
+        to_offset = is.to_offset;
+        of = record { depth = is.of.depth; from_depth = is.of.from_depth; to_depth = omega (arith, last, is.of.to_depth); at = is.of.at };
+      })
+      all
+
+-- a line of the one depth of an offset
+pub of_one : (page : LivingPage) (least : ℕ) (slope offset : ℤ) (shallowest deepest before word : ℕ) → shallowest ≡ deepest
+    → IsGreaterKey (IsKeyAt page least slope offset deepest) before word → IsGreaterKey (IsKeyOf page least slope offset shallowest deepest) before word
+of_one page least slope offset shallowest deepest before word one =
+    renamed_since (IsKeyAt page least slope offset deepest) (IsKeyOf page least slope offset shallowest deepest) before word
+    (λ k at. record { depth = deepest; from_depth = omega (arith, one); to_depth = omega arith; at = at })
+    (λ k of.
+    let same : of.depth ≡ deepest = omega (arith, one, of.from_depth, of.to_depth) in
+    subst (λ (d : ℕ). IsKeyAt page least slope offset d k) same of.at)

@@ -3,10 +3,12 @@ pub mod Places
 pub mod Cells
 pub mod Counting
 pub mod Weighing
+pub mod Summing
 pub mod Rows
 pub mod Segments
 pub mod Joining
 pub mod Bounding
+pub mod Heaviest
 pub mod Passing
 pub mod Renewing
 pub mod Spans

@@ -3,3 +3,4 @@ pub mod Fits
 pub mod Table
 pub mod Stretches
 pub mod Bests
+pub mod Tops

@@ -9,6 +9,7 @@ mod fit;
 mod greatest;
 mod keys;
 mod limits;
+mod parts;
 mod score;
 mod span;
 mod stretch;

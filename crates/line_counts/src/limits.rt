@@ -21,3 +21,18 @@ pub(crate) const PLACES_ABOVE: u16 = OFFSET_MARGIN + REACH;
 
 /// How many places there are beside the rows of the page: as many above as below, and those of the greatest depth.
 pub(crate) const PLACES_BEYOND: u16 = 2 * PLACES_ABOVE + MAX_DEPTH as u16 + 1;
+
+/// The most offsets whose lines are looked at together.
+pub(crate) const BATCH: u16 = 64;
+
+/// The most offsets of these lines and of those of their descenders.
+pub(crate) const MAX_TOPS: usize = BATCH as usize + MAX_DEPTH as usize + 1;
+
+/// The most places that weigh something for them.
+pub(crate) const MAX_PLACES: usize = MAX_TOPS + 2 * REACH as usize;
+
+/// The most parts into which gutters that all lines cross divide a page: the last has what is behind the others.
+pub(crate) const MAX_PARTS: usize = 4;
+
+/// The most that counts of 16 bits of all segments come to together.
+pub(crate) const MAX_PART_COUNT: u32 = MAX_SEGMENTS as u32 * 65_535;

@@ -1,6 +1,6 @@
-use Rattle.line_counts.specs.Stretches.{IsKeyIn, IsGreaterKey}
-use Rattle.line_counts.proofs.Joining.{first_of}
+use Rattle.line_counts.specs.Stretches.{IsGreaterKey}
+use Rattle.line_counts.proofs.Joining.{IsKeyAbove}
 use Rattle.line_counts.proofs.counts.Counts.greatest_in.Given as goal
 
-abbrev pub invariant-loop-more : goal.invariant-loop-more
-invariant-loop-more l = IsGreaterKey (IsKeyIn l.self l.least (first_of l.stretch l.more)) l.before l.best
+abbrev pub invariant-loop-depth : goal.invariant-loop-depth
+invariant-loop-depth l = IsGreaterKey (IsKeyAbove l.self l.least l.stretch l.depth) l.before l.best

@@ -3,7 +3,7 @@ use Rattle.std.proofs.lemmas.Int.{ints}
 use Rattle.layout_geom.specs.declared.rect.Rect.{Rect}
 use Rattle.line_quality.specs.Points.{Crosses, rise, middle_of}
 use Rattle.line_counts.proofs.Places.{held_slope, held_behind}
-use Rattle.line_counts.proofs.tops.crosses_all.Goals as goal
+use Rattle.line_counts.proofs.parts.crosses_all.Goals as goal
 
 lower : (y more : ℕ) (from r : ℤ) → pos y <ℤ (from +ℤ r) → pos y <ℤ ((from +ℤ pos more) +ℤ r)
 lower y more from r below = omega (arith, ints)
