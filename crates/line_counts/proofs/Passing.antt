@@ -1,5 +1,5 @@
 -- Why a line is passed over that cannot score enough for a greater key.
-use Rattle.std.proofs.Common.{◌≡◌, ℕ, ◌+◌, ◌*◌, ◌<◌, ◌≤◌, ℤ, pos, negsuc, ◌+ℤ◌, ◌-ℤ◌, ◌≤ℤ◌, ◌<ℤ◌, unsigned_abs, length, arith, sym, subst}
+use Rattle.std.proofs.Common.{◌≡◌, ℕ, ◌+◌, ◌*◌, ◌/◌, ◌^◌, ◌<◌, ◌≤◌, max, ℤ, pos, negsuc, ◌+ℤ◌, ◌-ℤ◌, ◌≤ℤ◌, ◌<ℤ◌, unsigned_abs, length, arith, sym, subst}
 use Rattle.std.proofs.lemmas.Int.{ints}
 use Rattle.line_quality.specs.KeyLaws.{abs_parts}
 use Rattle.line_quality.specs.Keys.{line_key}
@@ -61,3 +61,22 @@ row_passed page row least best top few low one below beaten = none_since (IsKeyI
   where
     further : (from : ℤ) (more : ℕ) → from ≤ℤ (from +ℤ pos more)
     further from more = omega (arith, ints)
+
+-- the digits behind the score are less than one more of it
+key_below : (score : ℕ) (slope offset : ℤ) (depth : ℕ) → line_key score slope offset depth < (score + 1) * 2 ^ 29
+key_below score slope offset depth = omega arith
+
+less_key : (score best key : ℕ) → key < (score + 1) * 2 ^ 29 → score < best / 2 ^ 29 → (0 < best) × (key ≤ best)
+less_key score best key low less = (omega (arith, low, less), omega (arith, low, less))
+
+-- all lines of a stretch, where none scores what it needs
+pub stretch_passed : (page : LivingPage) (stretch : Stretch) (least best most needed : ℕ) → needed ≡ max least (best / 2 ^ 29) → most < needed
+    → ((more depth score k : ℕ) → more < stretch.offsets → depth ≤ stretch.deepest → IsScore stretch.slope (stretch.from +ℤ pos more) depth page.boxes page.gutters page.alive score k → score ≤ most)
+    → IsGreaterKey (IsKeyIn page least stretch) best best
+stretch_passed page stretch least best most needed is little low = none_since (IsKeyIn page least stretch) best
+    (λ key within.
+    let there = behind_first stretch.from within.offset stretch.offsets within.from_offset within.to_offset in
+    let at : IsKeyAt page least stretch.slope (stretch.from +ℤ pos there.0) within.of.depth key =
+    subst (λ (o : ℤ). IsKeyAt page least stretch.slope o within.of.depth key) there.2 within.of.at in
+    let below : at.score ≤ most = low there.0 within.of.depth at.score at.in_column there.1 within.of.to_depth at.scored in
+    less_key at.score best key (omega (arith, at.has_key, key_below at.score stretch.slope (stretch.from +ℤ pos there.0) within.of.depth)) (omega (arith, is, little, below, at.enough)))

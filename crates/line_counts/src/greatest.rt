@@ -1,16 +1,17 @@
 //! The greatest key of a stretch of the grid.
-ghost use Rattle.std.specs.Prelude.{◌≡◌, ◌+◌, ◌/◌, ◌^◌, ◌<◌, ◌≤◌, pos, ◌+ℤ◌, ◌≤ℤ◌, ℕ, max, length, slice_index, IsFalse};
+ghost use Rattle.std.specs.Prelude.{◌≡◌, ◌+◌, ◌/◌, ◌^◌, ◌<◌, ◌≤◌, pos, ◌+ℤ◌, ◌≤ℤ◌, ℕ, [], max, length, slice_index, slice_index_or, IsFalse};
 ghost use Rattle.box_search.specs.Search.{IsGreatestKey};
 ghost use Rattle.line_quality.specs.Points.{IsSlope, IsOffset, IsDepth};
 ghost use Rattle.line_quality.specs.Keys;
 ghost use Rattle.line_quality.specs.Scores.{IsScore};
 ghost use Rattle.line_counts.specs.Stretches.{IsKeyAt, IsKeyOf, IsKeyIn, IsOfPage, IsGreaterKey};
-ghost use Rattle.line_counts.specs.Tops.{AreTops};
+ghost use Rattle.line_counts.specs.Tops.{AreParts, AreTops};
 
 use crate::counts::Counts;
 use crate::stretch::Stretch;
 use crate::tops::tops;
-use crate::limits::{BATCH, MAX_TABLE_BOXES};
+use crate::limits::{BATCH, MAX_PARTS, MAX_TABLE_BOXES, MAX_TOPS};
+use crate::parts::Parts;
 use layout_limits::MAX_SIDE;
 use line_quality::{LEAST_OFFSET, MAX_DEPTH, MAX_SCORE, OFFSET_MARGIN, line_key};
 
@@ -31,14 +32,27 @@ fn needed(least: u32, best: u64) -> u64
     (least as u64).max(best / (1 << 29))
 }
 
-/// The greatest of the tops of the first offsets, 0 where there is none.
-fn greatest_top(tops: &[u32], offsets: u16) -> u32
-    requires { offsets ≤ length tops.now }
-    ensures { (more : ℕ) → more < offsets → slice_index tops.now more ≤ result }
+/// The greatest of the first numbers, 0 where there is none.
+fn greatest_of_first(numbers: &[u32], count: usize) -> u32
+    requires { count ≤ length numbers.now }
+    ensures { (place : ℕ) → place < count → slice_index numbers.now place ≤ result }
 {
     let mut most = 0;
-    for more in 0..offsets as usize {
-        most = tops[more].max(most);
+    for place in 0..count {
+        most = numbers[place].max(most);
+    }
+    most
+}
+
+/// The greatest of the bells of parts.
+fn greatest_bell(parts: &Parts) -> u32
+    requires { AreParts parts.now }
+    ensures { (part place : ℕ) → part < parts.now.number → place < MAX_TOPS
+        → slice_index (slice_index_or parts.now.bells part []) place ≤ result }
+{
+    let mut most = 0;
+    for part in 0..parts.number {
+        most = greatest_of_first(&parts.bells[part], MAX_TOPS).max(most);
     }
     most
 }
@@ -143,7 +157,7 @@ impl Counts {
         requires tops { AreTops self.now row.now row.now.deepest tops.now }
         ensures { IsGreaterKey (IsKeyIn self.now least row.now) before result }
     {
-        let most = greatest_top(tops, row.offsets);
+        let most = greatest_of_first(tops, row.offsets as usize);
         if !may_beat(most, row.slope, row.from, row.deepest, least, before) {
             return before;
         }
@@ -163,6 +177,9 @@ impl Counts {
         ensures { IsGreaterKey (IsKeyIn self.now least stretch.now) before result }
     {
         let parts = self.parts(stretch);
+        if 2 * (greatest_bell(&parts) as u64) < needed(least, before) {
+            return before;
+        }
         let mut best = before;
         for depth in stretch.shallowest..stretch.deepest + 1 {
             let tops = tops(&parts, depth);

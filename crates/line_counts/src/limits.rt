@@ -32,7 +32,7 @@ pub(crate) const MAX_TOPS: usize = BATCH as usize + MAX_DEPTH as usize + 1;
 pub(crate) const MAX_PLACES: usize = MAX_TOPS + 2 * REACH as usize;
 
 /// The most parts into which gutters that all lines cross divide a page: the last has what is behind the others.
-pub(crate) const MAX_PARTS: usize = 4;
+pub(crate) const MAX_PARTS: usize = 3;
 
 /// The most that counts of 16 bits of all segments come to together.
 pub(crate) const MAX_PART_COUNT: u32 = MAX_SEGMENTS as u32 * 65_535;

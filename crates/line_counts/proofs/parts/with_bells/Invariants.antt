@@ -4,6 +4,6 @@ use Rattle.line_counts.proofs.parts.with_bells.Given as goal
 
 abbrev pub invariant-loop-part : goal.invariant-loop-part
 invariant-loop-part l = record {
-  long : length l.all ≡ 4;
+  long : length l.all ≡ 3;
   value : (p : ℕ) → p < l.part → AreBells (get_or l.counts p []) (get_or l.all p []);
 }

@@ -18,11 +18,11 @@ before_end from more count less = omega (arith, ints)
 pub returns-then-not-may_beat : goal.returns-then-not-may_beat
 returns-then-not-may_beat c =
     let row = c.args.row.now in
-    row_passed c.args.self.now row c.args.least c.args.before c.greatest_top-most.result c.requires.alive c.requires.of_page.low c.requires.row
-    (λ more score k less scored. omega (arith, c.requires.tops.over more score k less scored, c.greatest_top-most.ensures more less))
-    (subst (λ (o : ℤ). IsBeatenBelow row.slope o row.deepest c.args.least c.greatest_top-most.result c.args.before)
+    row_passed c.args.self.now row c.args.least c.args.before c.greatest_of_first-most.result c.requires.alive c.requires.of_page.low c.requires.row
+    (λ more score k less scored. omega (arith, c.requires.tops.over more score k less scored, c.greatest_of_first-most.ensures more less))
+    (subst (λ (o : ℤ). IsBeatenBelow row.slope o row.deepest c.args.least c.greatest_of_first-most.result c.args.before)
     (held_first row.from row.offsets c.args.self.now.height c.requires.of_page.low c.requires.of_page.high c.requires.of_page.page)
-    (subst (λ (s : ℤ). IsBeatenBelow s (to_z w16 (of_z w16 row.from)) row.deepest c.args.least c.greatest_top-most.result c.args.before) (held_slope row.slope c.requires.of_page.slope_in)
+    (subst (λ (s : ℤ). IsBeatenBelow s (to_z w16 (of_z w16 row.from)) row.deepest c.args.least c.greatest_of_first-most.result c.args.before) (held_slope row.slope c.requires.of_page.slope_in)
     (c.may_beat.ensures c.if-not-may_beat.true)))
 
 pub loop-more-init : goal.loop-more-init

@@ -12,11 +12,11 @@ use Rattle.line_counts.proofs.Bounding.{part_set, part_more, next_column, of_emp
 use Rattle.line_counts.proofs.counts.Counts.part_counts.Goals as goal
 use Rattle.line_counts.proofs.counts.Counts.part_counts.Goals.{then-begins_part, else-begins_part}
 
-no_part : (g k : ℕ) → get_or {A = ℕ} (get_or {A = List ℕ} (replicate {A = List ℕ} 4 (replicate {A = ℕ} 136 0)) g []) k 0 ≡ 0
+no_part : (g k : ℕ) → get_or {A = ℕ} (get_or {A = List ℕ} (replicate {A = List ℕ} 3 (replicate {A = ℕ} 136 0)) g []) k 0 ≡ 0
 no_part g k = ⊎_elim
-    (λ less. ap (λ (xs : List ℕ). get_or xs k 0) (get_or-replicate 4 g (replicate {A = ℕ} 136 0) [] less) ∙ zero_at 136 k)
-    (λ more. ap (λ (xs : List ℕ). get_or xs k 0) (get_or_past (replicate {A = List ℕ} 4 (replicate {A = ℕ} 136 0)) g [] more))
-    (cases_lt g 4)
+    (λ less. ap (λ (xs : List ℕ). get_or xs k 0) (get_or-replicate 3 g (replicate {A = ℕ} 136 0) [] less) ∙ zero_at 136 k)
+    (λ more. ap (λ (xs : List ℕ). get_or xs k 0) (get_or_past (replicate {A = List ℕ} 3 (replicate {A = ℕ} 136 0)) g [] more))
+    (cases_lt g 3)
 
 pub loop-of_segment-init : goal.loop-of_segment-init
 loop-of_segment-init c =
@@ -32,7 +32,7 @@ loop-of_segment-init c =
                 (column_of_segment stretch.slope (stretch.from +ℤ pos more) page.gutters 0),
           );
       counts_long = refl;
-      count_long = λ g less. ap (λ (xs : List ℕ). length xs) (get_or-replicate 4 g (replicate 136 0) [] less);
+      count_long = λ g less. ap (λ (xs : List ℕ). length xs) (get_or-replicate 3 g (replicate 136 0) [] less);
       counts_small = λ g k. omega (arith, no_part g k);
       few = omega arith;
       in_part = λ more k less. record {
@@ -47,7 +47,7 @@ loop-of_segment-init c =
 -- the sums are small, and have what the column of the segment has, or none
 pub record IsReady (page : LivingPage) (stretch : Stretch) (all n last part : ℕ) (parts : List (List ℕ)) (sums : List ℕ) : Type 0 where
   pub order : last ≤ part
-  pub few : part < 4
+  pub few : part < 3
   pub same : part ≡ last → (place : ℕ) → place < all → get_or (get_or parts last []) place 0 ≤ get_or sums place 0
   pub long : length sums ≡ 136
   pub small : (k : ℕ) → get_or sums k 0 ≤ n * 65535

@@ -11,10 +11,10 @@ invariant-loop-of_segment l = record {
   sums : (more place : ℕ) → more < l.stretch.offsets → place < l.stretch.offsets + l.stretch.deepest + 2 * 4
       → of_column (λ s. column_of_segment l.stretch.slope (l.stretch.from +ℤ pos more) l.self.gutters s) (λ s. count_behind l.self l.stretch place s)
       (column_of_segment l.stretch.slope (l.stretch.from +ℤ pos more) l.self.gutters l.of_segment) l.of_segment ≤ get_or l.sums place 0;
-  counts_long : length l.counts ≡ 4;
-  count_long : (g : ℕ) → g < 4 → length (get_or l.counts g []) ≡ 136;
+  counts_long : length l.counts ≡ 3;
+  count_long : (g : ℕ) → g < 3 → length (get_or l.counts g []) ≡ 136;
   counts_small : (g k : ℕ) → get_or (get_or l.counts g []) k 0 ≤ 1114095;
-  few : l.part < 4;
+  few : l.part < 3;
   in_part : (more k : ℕ) → more < l.stretch.offsets
       → HasPart (λ s. column_of_segment l.stretch.slope (l.stretch.from +ℤ pos more) l.self.gutters s) (λ place s. count_behind l.self l.stretch place s)
       (l.stretch.offsets + l.stretch.deepest + 2 * 4) k l.of_segment l.part l.counts;
