@@ -13,5 +13,6 @@ pub mod Nearing
 pub mod Renewing
 pub mod Keeping
 pub mod Parting
+pub mod Ranges
 pub mod Spans
 pub mod Covering

@@ -3,6 +3,7 @@ use Rattle.std.proofs.Common.{◌≡◌, ℕ, ◌+◌, ◌*◌, ◌<◌, ◌≤�
 use Rattle.std.specs.Int.{int_min, int_max}
 use Rattle.std.proofs.lemmas.Int.{ints, clamps, by_lt_z}
 use Rattle.std.proofs.lemmas.Bool.{cases_lt}
+use Rattle.std.proofs.lemmas.List.{get_or_default}
 use Rattle.box_search.specs.declared.space.Shape.{Shape}
 use Rattle.box_search.specs.Search.{IsGreatestKey}
 use Rattle.line_quality.specs.Points.{IsSlope}
@@ -11,12 +12,12 @@ use Rattle.line_counts.specs.declared.block.Block.{Block}
 use Rattle.line_counts.specs.declared.bounds.Offsets.{Offsets}
 use Rattle.line_counts.specs.declared.stretch.Stretch.{Stretch}
 use Rattle.line_counts.specs.Fits.{slope_of}
-use Rattle.line_counts.specs.Shapes.{IsInside, IsInGrid}
+use Rattle.line_counts.specs.Shapes.{IsInside, IsInGrid, IsSingle}
 use Rattle.line_counts.specs.Plain.{plain_key}
 use Rattle.line_counts.specs.Table.{LivingPage}
 use Rattle.line_counts.specs.Stretches.{IsKeyAt, IsKeyIn, IsOfPage}
-use Rattle.line_counts.specs.KeyTables.{IsKeyInShape}
-use Rattle.line_counts.specs.Blocks.{IsKeyBound, IsBlock, HasOffset, HasWhole, AreCommon, HaveRows, IsKeyWhere, IsRaisedBound, lines_of}
+use Rattle.line_counts.specs.KeyTables.{IsKeyInShape, IsShapeBound}
+use Rattle.line_counts.specs.Blocks.{IsKeyBound, IsBlock, AreBlocks, HasOffset, HasWhole, AreCommon, HaveRows, IsKeyWhere, IsRaisedBound, lines_of}
 use Rattle.line_counts.proofs.Places.{slope_in}
 use Rattle.line_counts.proofs.Growing.{IsWithin, plain_grows, line_plain}
 
@@ -93,8 +94,8 @@ module _ (page : LivingPage) (least deepest : ℕ) (shape : Shape) (block : Bloc
         to_slope = omega (arith, ints, last);
         from_offset = whole.from_offset;
         to_offset = whole.to_offset;
-        from_depth = omega (arith, ints, whole.from_depth);
-        to_depth = omega (arith, ints, whole.to_depth);
+        from_depth = whole.from_depth;
+        to_depth = whole.to_depth;
       } in
       let grown : plain_key page.boxes page.alive (lines_of (slope_of number) block.from block.offsets deepest) ≤ limit =
       plain_grows page.boxes page.alive (lines_of (slope_of number) block.from block.offsets deepest) shape within grid.from_offset grid.from_depth in
@@ -222,3 +223,111 @@ module _ (page : LivingPage) (least deepest : ℕ) (shape : Shape) (block : Bloc
           (λ (is_key : IsKeyIn page least stretch exact). omega (arith, word_is, low, line_plain page least shape exact grid.from_offset grid.from_depth (of_part exact is_key)))
           is.sound;
     }
+
+-- where the shape has one line, its key is that of the line
+module _ (page : LivingPage) (least deepest : ℕ) (shape : Shape) (grid : IsInGrid page.height deepest shape) (single : IsSingle shape) (stretch : Stretch)
+    (slope_is : stretch.slope ≡ shape.a0) (from_is : stretch.from ≡ shape.b0) (to_is : (stretch.from +ℤ pos stretch.offsets) ≡ shape.b1) (shallow_is : pos stretch.shallowest ≡ shape.c0)
+    (deep_is : pos (stretch.deepest + 1) ≡ shape.c1) where
+  pub line_of_page : IsOfPage page.height stretch
+  line_of_page = record {
+    page = grid.page;
+    slope_in = record { low = omega (arith, ints, slope_is, grid.from_slope); high = omega (arith, ints, slope_is, grid.some_slope, grid.to_slope) };
+    low = omega (arith, ints, from_is, grid.from_offset);
+    high = omega (arith, ints, to_is, grid.to_offset);
+    some_depth = omega (arith, ints, shallow_is, deep_is, grid.some_depth);
+    shallow = omega (arith, ints, deep_is, grid.to_depth, grid.depths);
+  }
+
+  one_slope : (s : ℤ) → shape.a0 ≤ℤ s → s <ℤ shape.a1 → s ≡ stretch.slope
+  one_slope s low high = omega (arith, ints, slope_is, single.0)
+
+  to_line : (key : ℕ) → IsKeyInShape page least shape key → IsKeyIn page least stretch key
+  to_line key is = record {
+    offset = is.offset;
+    from_offset = omega (arith, ints, from_is, is.inside.from_offset);
+    to_offset = omega (arith, ints, to_is, is.inside.to_offset);
+    of = record {
+      depth = is.depth;
+      from_depth = omega (arith, ints, shallow_is, is.inside.from_depth);
+      to_depth = omega (arith, ints, deep_is, is.inside.to_depth);
+      at = subst (λ (s : ℤ). IsKeyAt page least s is.offset is.depth key) (one_slope is.slope is.inside.from_slope is.inside.to_slope) is.at;
+    };
+  }
+
+  from_line : (key : ℕ) → IsKeyIn page least stretch key → IsKeyInShape page least shape key
+  from_line key is = record {
+    slope = stretch.slope;
+    offset = is.offset;
+    depth = is.of.depth;
+    inside = record {
+      from_slope = omega (arith, ints, slope_is);
+      to_slope = omega (arith, ints, slope_is, single.0);
+      from_offset = omega (arith, ints, from_is, is.from_offset);
+      to_offset = omega (arith, ints, to_is, is.to_offset);
+      from_depth = omega (arith, ints, shallow_is, is.of.from_depth);
+      to_depth = omega (arith, ints, deep_is, is.of.to_depth);
+    };
+    at = is.of.at;
+  }
+
+  pub single_bound : (key : ℕ) → IsGreatestKey (IsKeyIn page least stretch) key → IsShapeBound page least shape key
+  single_bound key exact = record {
+    over = λ k some. exact.greatest k (to_line k some);
+    plain = ⊎_elim
+        (λ (none : key ≡ 0). omega (arith, none))
+        (λ (some : IsKeyIn page least stretch key). line_plain page least shape key grid.from_offset grid.from_depth (from_line key some))
+        exact.sound;
+    single = λ _. record {
+      sound = ⊎_elim (λ (none : key ≡ 0). inl none) (λ (some : IsKeyIn page least stretch key). inr (from_line key some)) exact.sound;
+      greatest = λ k some. exact.greatest k (to_line k some);
+      none = λ zero k some. exact.none zero k (to_line k some);
+    };
+  }
+
+module _ (page : LivingPage) (least deepest : ℕ) (shape : Shape) (grid : IsInGrid page.height deepest shape) (blocks : List Block) (are : AreBlocks page least deepest blocks) where
+  abbrev pub IsKeyOfFirst : ℕ → ℕ → Type 0
+  IsKeyOfFirst n key = IsKeyWhere page least shape (λ (slope offset : ℤ). (k : ℕ) × (k < n) × ((d : Block) → HasOffset offset (get_or blocks k d))) key
+
+  -- no block
+  pub no_block : IsRaisedBound (IsKeyOfFirst 0) (plain_key page.boxes page.alive shape) 0 0
+  no_block = bound_kept (IsKeyOfFirst 0) (plain_key page.boxes page.alive shape) 0 (λ key some. absurd (omega (arith, some.here.1)))
+
+  -- one block more
+  pub block_more : (n bound more : ℕ) (block : Block) → block ≡ get_or blocks n block → IsRaisedBound (IsKeyOfFirst n) (plain_key page.boxes page.alive shape) 0 bound
+      → IsRaisedBound (IsKeyWhere page least shape (λ (slope offset : ℤ). HasOffset offset block)) (plain_key page.boxes page.alive shape) bound more
+      → IsRaisedBound (IsKeyOfFirst (n + 1)) (plain_key page.boxes page.alive shape) 0 more
+  block_more n bound more block at =
+      bound_raised (IsKeyOfFirst n) (IsKeyWhere page least shape (λ (slope offset : ℤ). HasOffset offset block)) (IsKeyOfFirst (n + 1)) (plain_key page.boxes page.alive shape) 0 bound more
+      (λ key some. ⊎_elim
+      (λ less. inl (record { line = some.line; here = (some.here.0, less, some.here.2) }))
+      (λ last.
+      let same : some.here.0 ≡ n = omega (arith, some.here.1, last) in
+      inr (record { line = some.line; here = subst (λ (b : Block). HasOffset some.line.offset b) (ap (λ (k : ℕ). get_or blocks k block) same ∙ sym at) (some.here.2 block) }))
+      (cases_lt some.here.0 n))
+
+  row_is : (offset : ℤ) → shape.b0 ≤ℤ offset → offset <ℤ shape.b1 → (pos (unsigned_abs (offset +ℤ pos 300)) +ℤ negsuc 299 ≡ offset) × (unsigned_abs (offset +ℤ pos 300) < page.height + 600 + 1)
+  row_is offset low high = (
+    omega (arith, ints, abs_parts (offset +ℤ pos 300), grid.from_offset),
+    omega (arith, ints, abs_parts (offset +ℤ pos 300), grid.from_offset, grid.to_offset),
+  )
+
+  -- all blocks
+  of_first : (n key : ℕ) → length blocks ≤ n → IsKeyInShape page least shape key → IsKeyOfFirst n key
+  of_first n key all is =
+      let row = row_is is.offset is.inside.from_offset is.inside.to_offset in
+      let found = are.all (unsigned_abs (is.offset +ℤ pos 300)) row.1 in
+      record {
+        line = is;
+        here = (
+          found.0,
+          omega (arith, found.2, all),
+          λ d. subst (λ (b : Block). HasOffset is.offset b) (sym (get_or_default blocks found.0 d found.1 found.2 ∙ found.3)) (subst (λ (o : ℤ). HasOffset o found.1) row.0 found.4),
+        );
+      }
+
+  pub all_over : (n bound : ℕ) → length blocks ≤ n → (IsSingle shape → ⊥) → IsRaisedBound (IsKeyOfFirst n) (plain_key page.boxes page.alive shape) 0 bound → IsShapeBound page least shape bound
+  all_over n bound all several is = record {
+    over = λ key some. is.over key (of_first n key all some);
+    plain = is.limited (omega arith);
+    single = λ single. absurd (several single);
+  }

@@ -52,7 +52,7 @@ sum_kept p f (x ∷ xs) =
     ∙ sum_kept_one (p x) f x (filter p xs) (filter p xs) refl
 
 -- one more place
-place_more : (b : Bool) (p n w v : ℕ) → (p ≡ n → w ≡ v) → cond (b && ltb p (n + 1)) w 0 ≡ cond (b && ltb p n) w 0 + cond (b && eqb p n) v 0
+pub place_more : (b : Bool) (p n w v : ℕ) → (p ≡ n → w ≡ v) → cond (b && ltb p (n + 1)) w 0 ≡ cond (b && ltb p n) w 0 + cond (b && eqb p n) v 0
 place_more true p n w v same = ⊎_elim
     (λ is. let e : w ≡ v = same is in grind (arith, nat_tests))
     (λ differs. grind (arith, nat_tests))

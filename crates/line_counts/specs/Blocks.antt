@@ -3,6 +3,7 @@ use Rattle.std.specs.Prelude.{◌≡◌, ℕ, ◌+◌, ◌*◌, ◌<◌, ◌≤�
 use Rattle.std.specs.List.{sum_by}
 use Rattle.std.specs.Int.{int_min, int_max}
 use Rattle.std.specs.List.Sorted.{IsPermutation}
+use Rattle.layout_limits.specs.declared.TheConstants.{MAX_SIDE}
 use Rattle.layout_geom.specs.declared.rect.Rect.{Rect}
 use Rattle.box_search.specs.declared.space.Shape.{Shape}
 use Rattle.line_counts.specs.declared.block.Block.{Block}
@@ -53,6 +54,7 @@ pub record AreKeyBounds (page : LivingPage) (least deepest : ℕ) (from : ℤ) (
 
 -- the offsets of the block are of the page, and none of its keys, which are bounds, is greater than its greatest
 pub record IsBlock (page : LivingPage) (least deepest : ℕ) (block : Block) : Type 0 where
+  pub of_page : page.height ≤ MAX_SIDE
   pub low : LEAST_OFFSET ≤ℤ block.from
   pub high : (block.from +ℤ pos block.offsets) ≤ℤ pos (page.height + OFFSET_MARGIN + 1)
   pub some : 0 < block.offsets
@@ -80,6 +82,12 @@ pub record AreSpans (boxes : List Rect) (members : List ℕ) (spans : List Span)
   pub long : length spans ≡ SLOPES
   pub each : (number : ℕ) (none : Span) → number < SLOPES
       → ((slice_index_or spans number none).slope ≡ slope_of number) × AreBetween boxes (slice_index_or spans number none) members
+
+-- the second is a block of the page that has the offsets of the first
+pub record IsRenewed (page : LivingPage) (least deepest : ℕ) (before after : Block) : Type 0 where
+  pub from_offset : after.from ≡ before.from
+  pub offsets : after.offsets ≡ before.offsets
+  pub block : IsBlock page least deepest after
 
 -- the block was one while the members of the spans were alive too
 pub record WasBlock (page : LivingPage) (least deepest : ℕ) (spans : List Span) (block : Block) : Type 0 where
@@ -114,8 +122,8 @@ pub record IsKeyWhere (page : LivingPage) (least : ℕ) (shape : Shape) (are : �
 pub record HasWhole (shape : Shape) (block : Block) (deepest : ℕ) : Type 0 where
   pub from_offset : shape.b0 ≤ℤ block.from
   pub to_offset : (block.from +ℤ pos block.offsets) ≤ℤ shape.b1
-  pub from_depth : shape.c0 ≡ pos 0
-  pub to_depth : shape.c1 ≡ pos (deepest + 1)
+  pub from_depth : shape.c0 ≤ℤ pos 0
+  pub to_depth : pos (deepest + 1) ≤ℤ shape.c1
 
 -- the offsets are those that the shape and the block have in common
 pub record AreCommon (shape : Shape) (block : Block) (offsets : Offsets) : Type 0 where

@@ -35,6 +35,7 @@ fn block_end(row: u32, rows: u32) -> u32
 
 /// The plain keys of all slopes for the lines of some offsets.
 fn plain_keys(counts: &Counts, from: i16, offsets: u16, least: u32, deepest: u8) -> [u64; SLOPES]
+    requires page { counts.now.height ≤ MAX_SIDE }
     requires low { LEAST_OFFSET ≤ℤ from }
     requires high { (from +ℤ pos offsets) ≤ℤ pos (counts.now.height + OFFSET_MARGIN + 1) }
     requires some { 0 < offsets }
@@ -54,7 +55,7 @@ fn block_of(counts: &Counts, row: u32, end: u32, least: u32, deepest: u8) -> Blo
     requires some { row < end }
     requires few { end ≤ row + MAX_BLOCK }
     requires inside { end ≤ counts.now.height + 2 * OFFSET_MARGIN + 1 }
-    requires high { counts.now.height ≤ MAX_SIDE }
+    requires page { counts.now.height ≤ MAX_SIDE }
     requires deep { deepest ≤ MAX_DEPTH }
     ensures block { IsBlock counts.now least deepest result }
     ensures from { result.from ≡ pos row +ℤ LEAST_OFFSET }

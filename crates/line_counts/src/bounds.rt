@@ -1,5 +1,5 @@
 //! Bounds of shapes of the grid: of the part that a shape has in a block, by the keys of the block, or by all its lines.
-ghost use Rattle.std.specs.Prelude.{◌≡◌, ◌+◌, ◌<◌, ◌≤◌, ◌↔◌, pos, ◌+ℤ◌, ◌≤ℤ◌, ◌<ℤ◌, IsTrue, IsFalse, ℤ};
+ghost use Rattle.std.specs.Prelude.{◌≡◌, ◌+◌, ◌<◌, ◌≤◌, ◌↔◌, pos, negsuc, ◌+ℤ◌, ◌≤ℤ◌, ◌<ℤ◌, IsTrue, IsFalse, ℤ};
 ghost use Rattle.std.specs.Int.{int_min, int_max};
 ghost use Rattle.line_counts.specs.Fits.{slope_of};
 ghost use Rattle.line_counts.specs.Shapes.{IsInGrid, IsSingle};
@@ -24,12 +24,22 @@ pub(crate) struct Offsets {
     pub(crate) to: i32,
 }
 
+/// Whether a range has one number.
+fn has_one(low: i32, high: i32) -> bool
+    requires low { negsuc 9999 ≤ℤ low }
+    requires some { low <ℤ high }
+    requires high { high ≤ℤ pos 9999 }
+    ensures { IsTrue result ↔ (high ≡ low +ℤ pos 1) }
+{
+    high - low == 1
+}
+
 /// Whether a shape has one line.
 pub(crate) fn is_single(shape: &Shape) -> bool
     requires { IsInGrid MAX_SIDE MAX_DEPTH shape.now }
     ensures { IsTrue result ↔ IsSingle shape.now }
 {
-    shape.a1 - shape.a0 == 1 && shape.b1 - shape.b0 == 1 && shape.c1 - shape.c0 == 1
+    has_one(shape.a0, shape.a1) && has_one(shape.b0, shape.b1) && has_one(shape.c0, shape.c1)
 }
 
 /// The number of a slope, or of the one behind the last.
@@ -76,16 +86,32 @@ pub(crate) fn part_of(shape: &Shape, slope: i8, offsets: Offsets) -> Stretch
     }
 }
 
+/// Whether a shape has all offsets of a block.
+fn has_offsets(shape: &Shape, block: &Block) -> bool
+    requires shape { IsInGrid MAX_SIDE MAX_DEPTH shape.now }
+    requires low { LEAST_OFFSET ≤ℤ block.now.from }
+    requires high { (block.now.from +ℤ pos block.now.offsets) ≤ℤ pos (MAX_SIDE + OFFSET_MARGIN + 1) }
+    ensures { IsTrue result → (shape.now.b0 ≤ℤ block.now.from) × ((block.now.from +ℤ pos block.now.offsets) ≤ℤ shape.now.b1) }
+{
+    shape.b0 <= block.from as i32 && block.from as i32 + block.offsets as i32 <= shape.b1
+}
+
+/// Whether a shape has all depths down to the deepest.
+fn has_depths(shape: &Shape, deepest: u8) -> bool
+    requires { IsInGrid MAX_SIDE MAX_DEPTH shape.now }
+    ensures { IsTrue result → (shape.now.c0 ≤ℤ pos 0) × (pos (deepest + 1) ≤ℤ shape.now.c1) }
+{
+    shape.c0 <= 0 && deepest as i32 + 1 <= shape.c1
+}
+
 /// Whether a shape has all offsets of a block, and all depths.
 fn has_whole(shape: &Shape, block: &Block, deepest: u8) -> bool
+    requires shape { IsInGrid MAX_SIDE MAX_DEPTH shape.now }
     requires low { LEAST_OFFSET ≤ℤ block.now.from }
     requires high { (block.now.from +ℤ pos block.now.offsets) ≤ℤ pos (MAX_SIDE + OFFSET_MARGIN + 1) }
     ensures { IsTrue result → HasWhole shape.now block.now deepest }
 {
-    shape.b0 <= block.from as i32
-        && block.from as i32 + block.offsets as i32 <= shape.b1
-        && shape.c0 == 0
-        && shape.c1 == deepest as i32 + 1
+    has_offsets(shape, block) && has_depths(shape, deepest)
 }
 
 impl Counts {
@@ -133,8 +159,11 @@ impl Counts {
         ensures { IsRaisedBound (IsKeyWhere self.now least shape.now (λ slope offset. HasOffset offset block.now))
             (plain_key self.now.boxes self.now.alive shape.now) before result }
     {
+        if block.greatest <= before {
+            return before;
+        }
         let offsets = common(shape, block);
-        if block.greatest <= before || offsets.to <= offsets.from {
+        if offsets.to <= offsets.from {
             return before;
         }
         let mut best = before;

@@ -14,6 +14,7 @@ mod lowering;
 mod plain;
 mod score;
 mod sharpening;
+mod sizes;
 mod span;
 mod stretch;
 mod table;
@@ -23,5 +24,6 @@ mod tops;
 
 pub use counts::Counts;
 pub use keys::Keys;
-pub use limits::{MAX_TABLE_BOXES, MAX_TABLE_GUTTERS};
+pub use limits::{MAX_TABLE_BOXES, MAX_TABLE_BYTES, MAX_TABLE_GUTTERS};
+pub use sizes::fits_table;
 pub use stretch::Stretch;

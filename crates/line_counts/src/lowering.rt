@@ -1,7 +1,7 @@
 //! The keys of blocks as the members of a line go.
 ghost use Rattle.std.specs.Prelude.{◌≡◌, ◌+◌, ◌*◌, ◌<◌, ◌≤◌, ◌≤ℤ◌, ℕ, IsTrue, length, All};
 ghost use Rattle.line_counts.specs.Fits.{slope_of};
-ghost use Rattle.line_counts.specs.Blocks.{Misses, WasBlock, WereBlocks, AreBlocks, IsKeyBound, AreKeyBounds, lines_of};
+ghost use Rattle.line_counts.specs.Blocks.{Misses, WasBlock, WereBlocks, AreBlocks, IsRenewed, IsKeyBound, AreKeyBounds, lines_of};
 
 use crate::block::Block;
 use crate::blocks::MAX_BLOCK;
@@ -68,6 +68,16 @@ fn lower_keys(
     keys
 }
 
+/// The block after the members went, with its keys lowered.
+fn lowered(counts: &Counts, block: &Block, spans: &[Span], least: u32, deepest: u8) -> Block
+    requires deep { deepest ≤ MAX_DEPTH }
+    requires before { WasBlock counts.now least deepest spans.now block.now }
+    ensures { IsRenewed counts.now least deepest block.now result }
+{
+    let keys = lower_keys(counts, block, spans, least, deepest);
+    Block::new(block.from, block.offsets, keys)
+}
+
 /// Lowers the keys of all blocks after the members of a line went.
 pub(crate) fn lower_blocks(
     blocks: &mut [Block],
@@ -78,12 +88,11 @@ pub(crate) fn lower_blocks(
 )
     requires within { All (λ position. position < length counts.now.boxes) members.now }
     requires before { WereBlocks counts.now least deepest members.now blocks.old }
-    ensures { AreBlocks counts.now least deepest blocks.new }
+    ensures blocks { AreBlocks counts.now least deepest blocks.new }
+    ensures long { length blocks.new ≡ length blocks.old }
 {
     let spans = spans_of(counts.boxes(), members);
     for place in 0..blocks.len() {
-        let block = blocks[place];
-        let keys = lower_keys(counts, &block, &spans, least, deepest);
-        blocks[place] = Block::new(block.from, block.offsets, keys);
+        blocks[place] = lowered(counts, &blocks[place], &spans, least, deepest);
     }
 }

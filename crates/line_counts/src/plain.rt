@@ -9,6 +9,7 @@ ghost use Rattle.line_counts.specs.Blocks.{IsKeyBound, lines_of};
 use crate::blocks::MAX_BLOCK;
 use crate::counts::Counts;
 use crate::limits::REACH;
+use layout_limits::MAX_SIDE;
 use line_quality::{LEAST_OFFSET, MAX_DEPTH, MAX_SCORE, MAX_WEIGHT, OFFSET_MARGIN, line_key, weight_at};
 
 /// How many rows the lines of some neighbouring offsets and their descenders take beside the first.
@@ -74,6 +75,7 @@ impl Counts {
         least: u32,
         deepest: u8,
     ) -> u64
+        requires page { self.now.height ≤ MAX_SIDE }
         requires slope { IsSlope slope }
         requires low { LEAST_OFFSET ≤ℤ from }
         requires high { (from +ℤ pos offsets) ≤ℤ pos (self.now.height + OFFSET_MARGIN + 1) }

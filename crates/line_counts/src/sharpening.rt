@@ -1,7 +1,7 @@
 //! Keys of blocks that are made exact.
 ghost use Rattle.std.specs.Prelude.{◌≡◌, ◌+◌, ◌<◌, ◌≤◌, pos, ◌+ℤ◌, ◌≤ℤ◌, length};
 ghost use Rattle.line_quality.specs.Points.{IsSlope};
-ghost use Rattle.line_counts.specs.Blocks.{IsBlock};
+ghost use Rattle.line_counts.specs.Blocks.{IsBlock, IsRenewed};
 
 use crate::block::{Block, place_of_greatest};
 use crate::counts::Counts;
@@ -28,11 +28,8 @@ pub(crate) fn greatest_block(blocks: &[Block]) -> usize
 pub(crate) fn sharpened(counts: &Counts, block: &Block, number: usize, least: u32, deepest: u8) -> Block
     requires number { number < SLOPES }
     requires deep { deepest ≤ MAX_DEPTH }
-    requires high { counts.now.height ≤ MAX_SIDE }
     requires block { IsBlock counts.now least deepest block.now }
-    ensures block { IsBlock counts.now least deepest result }
-    ensures from { result.from ≡ block.now.from }
-    ensures offsets { result.offsets ≡ block.now.offsets }
+    ensures { IsRenewed counts.now least deepest block.now result }
 {
     let lines = Stretch {
         slope: slope(number),

@@ -6,5 +6,5 @@ use Rattle.line_counts.proofs.keys.Keys.bound.Given as goal
 
 abbrev pub invariant-loop-block : goal.invariant-loop-block
 invariant-loop-block l =
-    IsRaisedBound (IsKeyWhere l.self.page l.self.least l.shape (λ (slope offset : ℤ). (k : ℕ) × (k < l.block-index) × ((d : Block) → HasOffset offset (get_or l.blocks k d))))
+    IsRaisedBound (IsKeyWhere l.self.page l.self.least l.shape (λ (slope offset : ℤ). (k : ℕ) × (k < l.block-index) × ((d : Block) → HasOffset offset (get_or l.block-items k d))))
     (plain_key l.self.page.boxes l.self.page.alive l.shape) 0 l.bound
