@@ -43,9 +43,13 @@ rows_set rows blocks i old new within at from offsets have = λ row less.
     let x : Block = found.1 in
     ⊎_elim
     (λ same.
-    let x_is : x ≡ old = sym found.3 ∙ ap (λ (n : ℕ). get_or blocks n x) same ∙ get_or_default blocks i x old within ∙ sym at in
-    (i, new, omega (arith, within, length-set blocks i new), get_or-set_same blocks i new new within,
-    moved (pos row +ℤ negsuc 299) x new (ap (λ (b : Block). b.from) x_is ∙ sym from) (ap (λ (b : Block). b.offsets) x_is ∙ sym offsets) found.4))
+    let x_is : x ≡ old = sym found.3 ∙ ap (λ (n : ℕ). get_or blocks n x) same ∙ get_or_default blocks i x old within ∙ sym at in (
+      i,
+      new,
+      omega (arith, within, length-set blocks i new),
+      get_or-set_same blocks i new new within,
+      moved (pos row +ℤ negsuc 299) x new (ap (λ (b : Block). b.from) x_is ∙ sym from) (ap (λ (b : Block). b.offsets) x_is ∙ sym offsets) found.4,
+    ))
     (λ differs. (k, x, omega (arith, found.2, length-set blocks i new), get_or-set_other blocks i k new x differs ∙ found.3, found.4))
     (cases_eq k i)
 

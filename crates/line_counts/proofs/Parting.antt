@@ -16,7 +16,7 @@ use Rattle.line_counts.specs.Shapes.{IsInside, IsInGrid, IsSingle}
 use Rattle.line_counts.specs.Plain.{plain_key}
 use Rattle.line_counts.specs.Table.{LivingPage}
 use Rattle.line_counts.specs.Stretches.{IsKeyAt, IsKeyIn, IsOfPage}
-use Rattle.line_counts.specs.KeyTables.{IsKeyInShape, IsShapeBound}
+use Rattle.line_counts.specs.KeyTables.{KeyTable, IsKeyInShape, IsShapeBound}
 use Rattle.line_counts.specs.Blocks.{IsKeyBound, IsBlock, AreBlocks, HasOffset, HasWhole, AreCommon, HaveRows, IsKeyWhere, IsRaisedBound, lines_of}
 use Rattle.line_counts.proofs.Places.{slope_in}
 use Rattle.line_counts.proofs.Growing.{IsWithin, plain_grows, line_plain}
@@ -293,16 +293,16 @@ module _ (page : LivingPage) (least deepest : ℕ) (shape : Shape) (grid : IsInG
   no_block = bound_kept (IsKeyOfFirst 0) (plain_key page.boxes page.alive shape) 0 (λ key some. absurd (omega (arith, some.here.1)))
 
   -- one block more
-  pub block_more : (n bound more : ℕ) (block : Block) → block ≡ get_or blocks n block → IsRaisedBound (IsKeyOfFirst n) (plain_key page.boxes page.alive shape) 0 bound
-      → IsRaisedBound (IsKeyWhere page least shape (λ (slope offset : ℤ). HasOffset offset block)) (plain_key page.boxes page.alive shape) bound more
+  pub block_more : (n bound more : ℕ) (d : Block) → IsRaisedBound (IsKeyOfFirst n) (plain_key page.boxes page.alive shape) 0 bound
+      → IsRaisedBound (IsKeyWhere page least shape (λ (slope offset : ℤ). HasOffset offset (get_or blocks n d))) (plain_key page.boxes page.alive shape) bound more
       → IsRaisedBound (IsKeyOfFirst (n + 1)) (plain_key page.boxes page.alive shape) 0 more
-  block_more n bound more block at =
-      bound_raised (IsKeyOfFirst n) (IsKeyWhere page least shape (λ (slope offset : ℤ). HasOffset offset block)) (IsKeyOfFirst (n + 1)) (plain_key page.boxes page.alive shape) 0 bound more
+  block_more n bound more d =
+      bound_raised (IsKeyOfFirst n) (IsKeyWhere page least shape (λ (slope offset : ℤ). HasOffset offset (get_or blocks n d))) (IsKeyOfFirst (n + 1)) (plain_key page.boxes page.alive shape) 0 bound more
       (λ key some. ⊎_elim
       (λ less. inl (record { line = some.line; here = (some.here.0, less, some.here.2) }))
       (λ last.
       let same : some.here.0 ≡ n = omega (arith, some.here.1, last) in
-      inr (record { line = some.line; here = subst (λ (b : Block). HasOffset some.line.offset b) (ap (λ (k : ℕ). get_or blocks k block) same ∙ sym at) (some.here.2 block) }))
+      inr (record { line = some.line; here = subst (λ (k : ℕ). HasOffset some.line.offset (get_or blocks k d)) same (some.here.2 d) }))
       (cases_lt some.here.0 n))
 
   row_is : (offset : ℤ) → shape.b0 ≤ℤ offset → offset <ℤ shape.b1 → (pos (unsigned_abs (offset +ℤ pos 300)) +ℤ negsuc 299 ≡ offset) × (unsigned_abs (offset +ℤ pos 300) < page.height + 600 + 1)
@@ -331,3 +331,10 @@ module _ (page : LivingPage) (least deepest : ℕ) (shape : Shape) (grid : IsInG
     plain = is.limited (omega arith);
     single = λ single. absurd (several single);
   }
+
+-- a bound for a table of keys is one for an equal table
+pub same_table : (keys now : KeyTable) (shape : Shape) (blocks : List Block) (n bound more : ℕ) (d : Block) → keys ≡ now
+    → IsRaisedBound (IsKeyWhere keys.page keys.least shape (λ (slope offset : ℤ). HasOffset offset (get_or blocks n d))) (plain_key keys.page.boxes keys.page.alive shape) bound more
+    → IsRaisedBound (IsKeyWhere now.page now.least shape (λ (slope offset : ℤ). HasOffset offset (get_or blocks n d))) (plain_key now.page.boxes now.page.alive shape) bound more
+same_table keys now shape blocks n bound more d same raised =
+    subst (λ (t : KeyTable). IsRaisedBound (IsKeyWhere t.page t.least shape (λ (slope offset : ℤ). HasOffset offset (get_or blocks n d))) (plain_key t.page.boxes t.page.alive shape) bound more) same raised

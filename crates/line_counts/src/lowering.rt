@@ -40,13 +40,7 @@ fn lower_key(
     if misses(spans[number], block.from, more_rows(block.offsets, deepest)) {
         return key;
     }
-    key.min(counts.plain_key(
-        slope(number),
-        block.from,
-        block.offsets,
-        least,
-        deepest,
-    ))
+    key.min(counts.plain_key(slope(number), block.from, block.offsets, least, deepest))
 }
 
 /// The keys of a block after the members went that stand in the spans of all slopes.

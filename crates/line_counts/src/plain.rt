@@ -10,7 +10,9 @@ use crate::blocks::MAX_BLOCK;
 use crate::counts::Counts;
 use crate::limits::REACH;
 use layout_limits::MAX_SIDE;
-use line_quality::{LEAST_OFFSET, MAX_DEPTH, MAX_SCORE, MAX_WEIGHT, OFFSET_MARGIN, line_key, weight_at};
+use line_quality::{
+    LEAST_OFFSET, MAX_DEPTH, MAX_SCORE, MAX_WEIGHT, OFFSET_MARGIN, line_key, weight_at,
+};
 
 /// How many rows the lines of some neighbouring offsets and their descenders take beside the first.
 pub(crate) fn more_rows(offsets: u16, deepest: u8) -> u8

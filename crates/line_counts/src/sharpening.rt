@@ -25,7 +25,13 @@ pub(crate) fn greatest_block(blocks: &[Block]) -> usize
 }
 
 /// The block with the key of the slope of a number made exact.
-pub(crate) fn sharpened(counts: &Counts, block: &Block, number: usize, least: u32, deepest: u8) -> Block
+pub(crate) fn sharpened(
+    counts: &Counts,
+    block: &Block,
+    number: usize,
+    least: u32,
+    deepest: u8,
+) -> Block
     requires number { number < SLOPES }
     requires deep { deepest ≤ MAX_DEPTH }
     requires block { IsBlock counts.now least deepest block.now }

@@ -133,9 +133,36 @@ fn parts_of_blocks_are_scored_by_their_own_lines(rt: HostRuntime) -> Result<(), 
     };
     let cases = [
         ("no depth", Shape { c1: 1, ..level }, line_key(99, 0, 12, 0)),
-        ("some offsets", Shape { b0: 12, b1: 14, ..level }, line_key(100, 0, 12, 1)),
-        ("one line", Shape { b0: 7, b1: 8, c0: 5, c1: 6, ..level }, line_key(99, 0, 7, 5)),
-        ("one line that scores too little", Shape { b0: 60, b1: 61, c0: 6, ..level }, 0),
+        (
+            "some offsets",
+            Shape {
+                b0: 12,
+                b1: 14,
+                ..level
+            },
+            line_key(100, 0, 12, 1),
+        ),
+        (
+            "one line",
+            Shape {
+                b0: 7,
+                b1: 8,
+                c0: 5,
+                c1: 6,
+                ..level
+            },
+            line_key(99, 0, 7, 5),
+        ),
+        (
+            "one line that scores too little",
+            Shape {
+                b0: 60,
+                b1: 61,
+                c0: 6,
+                ..level
+            },
+            0,
+        ),
     ];
     for (name, shape, key) in cases {
         assert_eq!(rt; keys.bound(&shape), key, "{name}");

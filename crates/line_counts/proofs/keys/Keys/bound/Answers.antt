@@ -8,7 +8,7 @@ use Rattle.line_counts.specs.Shapes.{IsInGrid, IsSingle}
 use Rattle.line_counts.specs.KeyTables.{KeyTable, IsShapeBound}
 use Rattle.line_counts.specs.Blocks.{AreBlocks, IsRaisedBound}
 use Rattle.line_counts.proofs.Ranges.{AreKept, wider, kept_in}
-use Rattle.line_counts.proofs.Parting.{IsKeyOfFirst, line_of_page, single_bound, block_more, all_over}
+use Rattle.line_counts.proofs.Parting.{IsKeyOfFirst, line_of_page, single_bound, block_more, all_over, same_table}
 use Rattle.line_counts.proofs.keys.Keys.bound.Goals as goal
 
 pub greatest-requires : goal.greatest-requires
@@ -33,7 +33,14 @@ returns-then-is_single c =
     (c.part_of.ensures.from ∙ kept.b0) (c.part_of.ensures.offsets ∙ kept.b1) c.part_of.ensures.shallowest c.part_of.ensures.deepest c.greatest.result c.greatest.ensures)
 
 pub loop-block-preserved : goal.loop-block-preserved
-loop-block-preserved c = ?
+loop-block-preserved c =
+    let items : List Block = c.as_slice-block-items.result.now in
+    let are : AreBlocks c.args.self.now.page c.args.self.now.least c.args.self.now.deepest items =
+    subst (λ (blocks : List Block). AreBlocks c.args.self.now.page c.args.self.now.least c.args.self.now.deepest blocks) (sym c.as_slice-block-items.ensures.value)
+    (subst (λ (keys : KeyTable). AreBlocks keys.page keys.least keys.deepest c.self.inside.blocks.items) c.self.view_is c.self.invariant) in
+    block_more c.args.self.now.page c.args.self.now.least c.args.self.now.deepest c.args.shape.now c.requires items are c.loop-block.block-index c.loop-block.bound c.bound_in-bound.result _
+    c.loop-block.invariant
+    (same_table _ c.args.self.now c.args.shape.now items c.loop-block.block-index c.loop-block.bound c.bound_in-bound.result _ c.self.view_is c.bound_in-bound.ensures)
 
 pub returns : goal.returns
 returns c =
