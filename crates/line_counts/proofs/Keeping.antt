@@ -1,5 +1,5 @@
 -- How a key stays a bound of its lines, as boxes go and as it is made exact.
-use Rattle.std.proofs.Common.{◌≡◌, ℕ, ◌+◌, ◌*◌, ◌^◌, ◌<◌, ◌≤◌, min, ℤ, pos, negsuc, ◌+ℤ◌, ◌-ℤ◌, ◌≤ℤ◌, ◌<ℤ◌, unsigned_abs, to_z, of_z, w16, List, get_or, set, get_or-set_same, get_or-set_other, length, ⊎_elim, slice_get, arith, refl, sym, ap, ◌∙◌, subst}
+use Rattle.std.proofs.Common.{◌≡◌, ℕ, ◌+◌, ◌*◌, ◌^◌, ◌<◌, ◌≤◌, min, ℤ, pos, negsuc, ◌+ℤ◌, ◌-ℤ◌, ◌≤ℤ◌, ◌<ℤ◌, unsigned_abs, to_z, of_z, w16, List, get_or, set, get_or-set_same, get_or-set_other, length, inl, inr, ⊎_elim, slice_get, arith, refl, sym, ap, ◌∙◌, subst}
 use Rattle.std.specs.List.{sum_by}
 use Rattle.std.proofs.Math.ListN.{length-set}
 use Rattle.std.proofs.lemmas.Int.{ints, clamps}
@@ -11,13 +11,13 @@ use Rattle.line_quality.specs.Keys.{line_key}
 use Rattle.line_counts.specs.declared.block.Block.{Block}
 use Rattle.line_counts.specs.declared.span.Span.{Span}
 use Rattle.line_counts.specs.declared.stretch.Stretch.{Stretch}
-use Rattle.line_counts.specs.Fits.{slope_of}
+use Rattle.line_counts.specs.Fits.{slope_of, first_place}
 use Rattle.line_counts.specs.Shapes.{least_depth}
 use Rattle.line_counts.specs.Plain.{plain_weight, plain_key, nearest_slope}
 use Rattle.line_counts.specs.Table.{LivingPage}
 use Rattle.line_counts.specs.Stretches.{IsKeyAt, IsKeyIn, IsOfPage}
 use Rattle.line_counts.specs.KeyTables.{IsKeyInShape}
-use Rattle.line_counts.specs.Blocks.{IsKeyBound, AreKeyBounds, IsBlock, WasBlock, Misses, lines_of, with_alive}
+use Rattle.line_counts.specs.Blocks.{IsKeyBound, AreKeyBounds, IsBlock, IsRenewed, WasBlock, IsHull, Misses, lines_of, with_alive}
 use Rattle.line_counts.proofs.Places.{slope_in, held_in_grid}
 use Rattle.line_counts.proofs.Growing.{line_below, score_within}
 use Rattle.line_counts.proofs.Nearing.{same_rows}
@@ -143,8 +143,8 @@ module _ (page : LivingPage) (least : ℕ) (slope from : ℤ) (offsets deepest :
 -- the block of some offsets and their bounds
 pub block_by : (page : LivingPage) (least deepest : ℕ) (from : ℤ) (offsets : ℕ) (block : Block) → page.height ≤ 8192 → negsuc 299 ≤ℤ from → (from +ℤ pos offsets) ≤ℤ pos (page.height + 300 + 1) → 0 < offsets → offsets ≤ 64
     → block.from ≡ from → block.offsets ≡ offsets → AreKeyBounds page least deepest from offsets block.keys → ((number : ℕ) → get_or block.keys number 0 ≤ block.greatest)
-    → IsBlock page least deepest block
-block_by page least deepest from offsets block high_page low high some few from_is offsets_is keys greatest = record {
+    → ((number : ℕ) × (number < 65) × (get_or block.keys number 0 ≡ block.greatest)) → IsBlock page least deepest block
+block_by page least deepest from offsets block high_page low high some few from_is offsets_is keys greatest reached = record {
   of_page = high_page;
   low = omega (arith, ints, from_is, low);
   high = omega (arith, ints, from_is, offsets_is, high);
@@ -153,6 +153,7 @@ block_by page least deepest from offsets block high_page low high some few from_
   keys = subst (λ (o : ℤ). AreKeyBounds page least deepest o block.offsets block.keys) (sym from_is)
       (subst (λ (n : ℕ). AreKeyBounds page least deepest from n block.keys) (sym offsets_is) keys);
   greatest = greatest;
+  reached = reached;
 }
 
 -- the first offset of a block as the code holds it
@@ -180,6 +181,36 @@ pub same_left : {X : Type 0} (xs old : List X) (i : ℕ) (x : X) → ((k : ℕ) 
     → (k : ℕ) (d : X) → i + 1 ≤ k → get_or (set xs i x) k d ≡ get_or old k d
 same_left xs old i x same k d more = get_or-set_other xs i k x d (λ e. omega (arith, e, more)) ∙ same k d (omega (arith, more))
 
+-- a block that the hull of the spans misses stays as it is
+pub block_missed : (page : LivingPage) (least deepest more : ℕ) (spans : List Span) (hull : Span) (block : Block) → WasBlock page least deepest spans block → IsHull spans hull → more + 1 ≡ block.offsets + deepest
+    → Misses hull block.from more → IsRenewed page least deepest block block
+block_missed page least deepest more spans hull block was covers rows misses = record {
+  from_offset = refl;
+  offsets = refl;
+  block = record {
+    of_page = was.was.of_page;
+    low = was.was.low;
+    high = was.was.high;
+    some = was.was.some;
+    few = was.was.few;
+    keys = record {
+      long = was.was.keys.long;
+      each = λ number numbered.
+          key_kept page least deepest number more spans block numbered was none rows (missed number (omega (arith, numbered, was.spanned.long)));
+    };
+    greatest = was.was.greatest;
+    reached = was.was.reached;
+  };
+}
+  where
+    none : Span
+    none = record { slope = pos 0; first = 0; last = 0 }
+
+    missed : (number : ℕ) → number < length spans → Misses (get_or spans number none) block.from more
+    missed number within =
+        let inside = covers number none within in
+        ⊎_elim (λ before. inl (omega (arith, inside.1, before))) (λ behind. inr (omega (arith, inside.0, behind))) misses
+
 module _ (page : LivingPage) (least deepest number : ℕ) (block : Block) (is : IsBlock page least deepest block) (numbered : number < 65) (deep : deepest ≤ 63) (stretch : Stretch)
     (of : IsStretchOf (slope_of number) block.from block.offsets deepest stretch) where
   -- the lines of a block and a slope are of the page
@@ -195,8 +226,8 @@ module _ (page : LivingPage) (least deepest number : ℕ) (block : Block) (is : 
 
   -- and a block stays one where their key is made exact
   pub sharp_block : (key : ℕ) (new : Block) → IsGreatestKey (IsKeyIn page least stretch) key → new.from ≡ block.from → new.offsets ≡ block.offsets → new.keys ≡ set block.keys number key
-      → ((n : ℕ) → get_or new.keys n 0 ≤ new.greatest) → IsBlock page least deepest new
-  sharp_block key new exact from_is offsets_is keys_is greatest =
+      → ((n : ℕ) → get_or new.keys n 0 ≤ new.greatest) → ((n : ℕ) × (n < 65) × (get_or new.keys n 0 ≡ new.greatest)) → IsBlock page least deepest new
+  sharp_block key new exact from_is offsets_is keys_is greatest reached =
       let within : number < length block.keys = omega (arith, numbered, is.keys.long) in
       let bound : IsKeyBound page least (lines_of (slope_of number) block.from block.offsets deepest) key =
       exact_bound page least (slope_of number) block.from block.offsets deepest stretch of (get_or block.keys number 0) key (is.keys.each number numbered) exact in
@@ -205,4 +236,4 @@ module _ (page : LivingPage) (least deepest number : ℕ) (block : Block) (is : 
         each = each_set (λ (n k : ℕ). IsKeyBound page least (lines_of (slope_of n) block.from block.offsets deepest) k) block.keys number key 0 65 within bound is.keys.each;
       } in
       block_by page least deepest block.from block.offsets new is.of_page is.low is.high is.some is.few from_is offsets_is
-      (subst (λ (ks : List ℕ). AreKeyBounds page least deepest block.from block.offsets ks) (sym keys_is) keys) greatest
+      (subst (λ (ks : List ℕ). AreKeyBounds page least deepest block.from block.offsets ks) (sym keys_is) keys) greatest reached

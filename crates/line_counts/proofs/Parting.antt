@@ -17,7 +17,7 @@ use Rattle.line_counts.specs.Plain.{plain_key}
 use Rattle.line_counts.specs.Table.{LivingPage}
 use Rattle.line_counts.specs.Stretches.{IsKeyAt, IsKeyIn, IsOfPage}
 use Rattle.line_counts.specs.KeyTables.{KeyTable, IsKeyInShape, IsShapeBound}
-use Rattle.line_counts.specs.Blocks.{IsKeyBound, IsBlock, AreBlocks, HasOffset, HasWhole, AreCommon, HaveRows, IsKeyWhere, IsRaisedBound, lines_of}
+use Rattle.line_counts.specs.Blocks.{IsKeyBound, IsBlock, AreBlocks, HasOffset, HasWhole, HasAll, AreCommon, HaveRows, IsKeyWhere, IsRaisedBound, lines_of}
 use Rattle.line_counts.proofs.Places.{slope_in}
 use Rattle.line_counts.proofs.Growing.{IsWithin, plain_grows, line_plain}
 
@@ -117,6 +117,23 @@ module _ (page : LivingPage) (least deepest : ℕ) (shape : Shape) (block : Bloc
       number_is : (s : ℤ) → negsuc 31 ≤ℤ shape.a0 → shape.a1 ≤ℤ (pos 32 +ℤ pos 1) → shape.a0 ≤ℤ s → s <ℤ shape.a1
           → (s ≡ slope_of (unsigned_abs (s +ℤ pos 32))) × (unsigned_abs (s +ℤ pos 32) < 65)
       number_is s low high from to = (omega (arith, ints, abs_parts (s +ℤ pos 32)), omega (arith, ints, abs_parts (s +ℤ pos 32)))
+
+  -- the shape has all lines of the block
+  pub block_raises : (before : ℕ) → HasAll shape block deepest → before < block.greatest → IsRaisedBound IsKeyOfBlock limit before block.greatest
+  block_raises before all more =
+      let number : ℕ = of_page.reached.0 in
+      let raised = key_raises number 0 of_page.reached.1 (first number) (last number of_page.reached.1) all.whole (omega arith) in
+      record {
+        no_less = omega (arith, more);
+        over = (block_passed block.greatest (omega arith)).over;
+        limited = λ _. omega (arith, raised.limited (omega arith), of_page.reached.2);
+      }
+    where
+      first : (number : ℕ) → shape.a0 ≤ℤ slope_of number
+      first number = omega (arith, ints, all.from_slope)
+
+      last : (number : ℕ) → number < 65 → slope_of number <ℤ shape.a1
+      last number few = omega (arith, ints, all.to_slope)
 
   -- the shape has none of its offsets
   pub none_common : (offsets : Offsets) (before : ℕ) → AreCommon shape block offsets → offsets.to ≤ℤ offsets.from → IsRaisedBound IsKeyOfBlock limit before before

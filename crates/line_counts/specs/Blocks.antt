@@ -1,5 +1,6 @@
 -- Blocks of offsets with a key for each slope, and how the keys stay bounds as boxes go.
-use Rattle.std.specs.Prelude.{◌≡◌, ℕ, ◌+◌, ◌*◌, ◌<◌, ◌≤◌, ◌⊎◌, ℤ, pos, ◌+ℤ◌, ◌≤ℤ◌, ◌<ℤ◌, ◌-◌, cond, List, length, Any, ◌++◌, slice_index, slice_index_or, slice_get, IfSome, All}
+use Rattle.std.specs.Prelude.{◌≡◌, ℕ, ◌+◌, ◌*◌, ◌<◌, ◌≤◌, ◌⊎◌, ℤ, pos, ◌+ℤ◌, ◌≤ℤ◌}
+use Rattle.std.specs.Prelude.{◌<ℤ◌, ◌-◌, cond, List, length, Any, ◌++◌, slice_index, slice_index_or, slice_get, IfSome, All}
 use Rattle.std.specs.List.{sum_by}
 use Rattle.std.specs.Int.{int_min, int_max}
 use Rattle.std.specs.List.Sorted.{IsPermutation}
@@ -11,7 +12,7 @@ use Rattle.line_counts.specs.declared.bounds.Offsets.{Offsets}
 use Rattle.line_counts.specs.declared.blocks.TheConstants.{MAX_BLOCK}
 use Rattle.line_counts.specs.declared.span.Span.{Span}
 use Rattle.line_counts.specs.declared.limits.TheConstants.{REACH, SLOPES}
-use Rattle.line_quality.specs.declared.limits.TheConstants.{LEAST_OFFSET, OFFSET_MARGIN, MAX_DEPTH}
+use Rattle.line_quality.specs.declared.limits.TheConstants.{LEAST_SLOPE, MAX_SLOPE, LEAST_OFFSET, OFFSET_MARGIN, MAX_DEPTH}
 use Rattle.line_quality.specs.Points.{weight_at}
 use Rattle.line_counts.specs.Fits.{slope_of, place_of, first_place, is_in}
 use Rattle.line_counts.specs.KeyTables.{IsKeyInShape}
@@ -50,9 +51,10 @@ pub record IsKeyBound (page : LivingPage) (least : ℕ) (shape : Shape) (bound :
 -- the keys are bounds for the slopes, in their order
 pub record AreKeyBounds (page : LivingPage) (least deepest : ℕ) (from : ℤ) (offsets : ℕ) (keys : List ℕ) : Type 0 where
   pub long : length keys ≡ SLOPES
-  pub each : (number : ℕ) → number < SLOPES → IsKeyBound page least (lines_of (slope_of number) from offsets deepest) (slice_index keys number)
+  pub each : (number : ℕ) → number < SLOPES
+      → IsKeyBound page least (lines_of (slope_of number) from offsets deepest) (slice_index keys number)
 
--- the offsets of the block are of the page, and none of its keys, which are bounds, is greater than its greatest
+-- the offsets of the block are of the page, and its greatest key is that of its keys, which are bounds
 pub record IsBlock (page : LivingPage) (least deepest : ℕ) (block : Block) : Type 0 where
   pub of_page : page.height ≤ MAX_SIDE
   pub low : LEAST_OFFSET ≤ℤ block.from
@@ -61,6 +63,7 @@ pub record IsBlock (page : LivingPage) (least deepest : ℕ) (block : Block) : T
   pub few : block.offsets ≤ MAX_BLOCK
   pub keys : AreKeyBounds page least deepest block.from block.offsets block.keys
   pub greatest : (number : ℕ) → slice_index block.keys number ≤ block.greatest
+  pub reached : (number : ℕ) × (number < SLOPES) × (slice_index block.keys number ≡ block.greatest)
 
 -- the offset is one of the block
 pub record HasOffset (offset : ℤ) (block : Block) : Type 0 where
@@ -124,6 +127,17 @@ pub record HasWhole (shape : Shape) (block : Block) (deepest : ℕ) : Type 0 whe
   pub to_offset : (block.from +ℤ pos block.offsets) ≤ℤ shape.b1
   pub from_depth : shape.c0 ≤ℤ pos 0
   pub to_depth : pos (deepest + 1) ≤ℤ shape.c1
+
+-- the shape has all slopes too
+pub record HasAll (shape : Shape) (block : Block) (deepest : ℕ) : Type 0 where
+  pub whole : HasWhole shape block deepest
+  pub from_slope : shape.a0 ≤ℤ LEAST_SLOPE
+  pub to_slope : (MAX_SLOPE +ℤ pos 1) ≤ℤ shape.a1
+
+-- no span has a place before the first of the hull, or behind its last
+abbrev pub IsHull : List Span → Span → Type 0
+IsHull spans hull = (number : ℕ) (none : Span) → number < length spans
+    → (hull.first ≤ (slice_index_or spans number none).first) × ((slice_index_or spans number none).last ≤ hull.last)
 
 -- the offsets are those that the shape and the block have in common
 pub record AreCommon (shape : Shape) (block : Block) (offsets : Offsets) : Type 0 where

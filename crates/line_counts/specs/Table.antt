@@ -2,7 +2,8 @@
 use Rattle.std.specs.Prelude.{◌≡◌, ℕ, ◌+◌, ◌*◌, ◌<◌, ◌≤◌, ◌&&◌, ◌==◌, cond, ℤ, List, length, slice_index, All, Some}
 use Rattle.layout_limits.specs.declared.TheConstants.{MAX_SIDE}
 use Rattle.layout_geom.specs.declared.rect.Rect.{Rect}
-use Rattle.line_counts.specs.declared.limits.TheConstants.{SLOPES, MAX_TABLE_GUTTERS, MAX_TABLE_BOXES, MAX_TABLE_BYTES, PLACES_BEYOND, REACH}
+use Rattle.line_counts.specs.declared.limits.TheConstants.{SLOPES, PLACES_BEYOND, REACH}
+use Rattle.line_counts.specs.declared.limits.TheConstants.{MAX_TABLE_GUTTERS, MAX_TABLE_BOXES, MAX_TABLE_BYTES}
 use Rattle.line_quality.specs.Points.{middle_of}
 use Rattle.line_counts.specs.Fits.{slope_of, place_of, segment_of, is_in, place_in, count_of, first_place}
 

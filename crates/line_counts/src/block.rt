@@ -42,7 +42,8 @@ impl Block {
         ensures from { result.from ≡ from }
         ensures offsets { result.offsets ≡ offsets }
         ensures keys { result.keys ≡ keys }
-        ensures greatest { (number : ℕ) → slice_index keys number ≤ result.greatest }
+        ensures greatest { (number : ℕ) → slice_index result.keys number ≤ result.greatest }
+        ensures reached { (number : ℕ) × (number < SLOPES) × (slice_index result.keys number ≡ result.greatest) }
     {
         Block {
             from,

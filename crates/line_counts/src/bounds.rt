@@ -1,12 +1,13 @@
 //! Bounds of shapes of the grid: of the part that a shape has in a block, by the keys of the block, or by all its lines.
-ghost use Rattle.std.specs.Prelude.{◌≡◌, ◌+◌, ◌<◌, ◌≤◌, ◌↔◌, pos, negsuc, ◌+ℤ◌, ◌≤ℤ◌, ◌<ℤ◌, IsTrue, IsFalse, ℤ};
+ghost use Rattle.std.specs.Prelude.{◌≡◌, ◌+◌, ◌<◌, ◌≤◌, ◌↔◌, pos};
+ghost use Rattle.std.specs.Prelude.{negsuc, ◌+ℤ◌, ◌≤ℤ◌, ◌<ℤ◌, IsTrue, IsFalse, ℤ};
 ghost use Rattle.std.specs.Int.{int_min, int_max};
 ghost use Rattle.line_counts.specs.Fits.{slope_of};
 ghost use Rattle.line_counts.specs.Shapes.{IsInGrid, IsSingle};
 ghost use Rattle.line_counts.specs.Plain.{plain_key};
 ghost use Rattle.line_counts.specs.KeyTables.{IsKeyInShape};
 ghost use Rattle.line_counts.specs.Stretches.{IsOfPage};
-ghost use Rattle.line_counts.specs.Blocks.{IsBlock, HasOffset, HasWhole, IsKeyWhere, IsRaisedBound, AreCommon};
+ghost use Rattle.line_counts.specs.Blocks.{IsBlock, HasOffset, HasWhole, HasAll, IsKeyWhere, IsRaisedBound, AreCommon};
 
 use crate::block::Block;
 use crate::counts::Counts;
@@ -114,6 +115,24 @@ fn has_whole(shape: &Shape, block: &Block, deepest: u8) -> bool
     has_offsets(shape, block) && has_depths(shape, deepest)
 }
 
+/// Whether a shape has all slopes.
+fn has_slopes(shape: &Shape) -> bool
+    requires { IsInGrid MAX_SIDE MAX_DEPTH shape.now }
+    ensures { IsTrue result → (shape.now.a0 ≤ℤ LEAST_SLOPE) × ((MAX_SLOPE +ℤ pos 1) ≤ℤ shape.now.a1) }
+{
+    shape.a0 <= LEAST_SLOPE as i32 && MAX_SLOPE as i32 + 1 <= shape.a1
+}
+
+/// Whether a shape has all lines of a block.
+fn has_all(shape: &Shape, block: &Block, deepest: u8) -> bool
+    requires shape { IsInGrid MAX_SIDE MAX_DEPTH shape.now }
+    requires low { LEAST_OFFSET ≤ℤ block.now.from }
+    requires high { (block.now.from +ℤ pos block.now.offsets) ≤ℤ pos (MAX_SIDE + OFFSET_MARGIN + 1) }
+    ensures { IsTrue result → HasAll shape.now block.now deepest }
+{
+    has_slopes(shape) && has_whole(shape, block, deepest)
+}
+
 impl Counts {
     /// The bound so far, or a greater one of the lines of a shape that have the slope of a number and an offset of a block.
     fn bound_at(
@@ -131,7 +150,8 @@ impl Counts {
         requires number { number < SLOPES }
         requires first { shape.now.a0 ≤ℤ slope_of number }
         requires last { slope_of number <ℤ shape.now.a1 }
-        ensures { IsRaisedBound (IsKeyWhere self.now least shape.now (λ slope offset. (slope ≡ slope_of number) × HasOffset offset block.now))
+        ensures { IsRaisedBound
+            (IsKeyWhere self.now least shape.now (λ slope offset. (slope ≡ slope_of number) × HasOffset offset block.now))
             (plain_key self.now.boxes self.now.alive shape.now) before result }
     {
         let key = block.keys[number];
@@ -165,6 +185,9 @@ impl Counts {
         let offsets = common(shape, block);
         if offsets.to <= offsets.from {
             return before;
+        }
+        if has_all(shape, block, deepest) {
+            return block.greatest;
         }
         let mut best = before;
         for number in number_of(shape.a0)..number_of(shape.a1) {

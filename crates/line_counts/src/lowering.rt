@@ -1,7 +1,7 @@
 //! The keys of blocks as the members of a line go.
 ghost use Rattle.std.specs.Prelude.{◌≡◌, ◌+◌, ◌*◌, ◌<◌, ◌≤◌, ◌≤ℤ◌, ℕ, IsTrue, length, All};
 ghost use Rattle.line_counts.specs.Fits.{slope_of};
-ghost use Rattle.line_counts.specs.Blocks.{Misses, WasBlock, WereBlocks, AreBlocks, IsRenewed, IsKeyBound, AreKeyBounds, lines_of};
+ghost use Rattle.line_counts.specs.Blocks.{Misses, WasBlock, WereBlocks, AreBlocks, IsRenewed, IsHull, IsKeyBound, AreKeyBounds, lines_of};
 
 use crate::block::Block;
 use crate::blocks::MAX_BLOCK;
@@ -9,7 +9,7 @@ use crate::counts::Counts;
 use crate::fit::{first_place, slope};
 use crate::limits::{REACH, SLOPES};
 use crate::plain::more_rows;
-use crate::span::{Span, spans_of};
+use crate::span::{Span, hull_of, spans_of};
 use line_quality::{LEAST_OFFSET, MAX_DEPTH};
 
 /// Whether no place in the span weighs anything for a line of the span's slope whose offset is this one, or one of so many rows more.
@@ -62,12 +62,23 @@ fn lower_keys(
     keys
 }
 
-/// The block after the members went, with its keys lowered.
-fn lowered(counts: &Counts, block: &Block, spans: &[Span], least: u32, deepest: u8) -> Block
+/// The block after the members went, with its keys lowered where the hull of the spans may touch it.
+fn lowered(
+    counts: &Counts,
+    block: &Block,
+    spans: &[Span],
+    hull: Span,
+    least: u32,
+    deepest: u8,
+) -> Block
     requires deep { deepest ≤ MAX_DEPTH }
+    requires hull { IsHull spans.now hull }
     requires before { WasBlock counts.now least deepest spans.now block.now }
     ensures { IsRenewed counts.now least deepest block.now result }
 {
+    if misses(hull, block.from, more_rows(block.offsets, deepest)) {
+        return *block;
+    }
     let keys = lower_keys(counts, block, spans, least, deepest);
     Block::new(block.from, block.offsets, keys)
 }
@@ -86,7 +97,8 @@ pub(crate) fn lower_blocks(
     ensures long { length blocks.new ≡ length blocks.old }
 {
     let spans = spans_of(counts.boxes(), members);
+    let hull = hull_of(&spans);
     for place in 0..blocks.len() {
-        blocks[place] = lowered(counts, &blocks[place], &spans, least, deepest);
+        blocks[place] = lowered(counts, &blocks[place], &spans, hull, least, deepest);
     }
 }

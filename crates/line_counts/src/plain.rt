@@ -58,7 +58,8 @@ impl Counts {
         requires slope { IsSlope slope }
         requires low { LEAST_OFFSET ≤ℤ from }
         requires high { (from +ℤ pos more) ≤ℤ pos (self.now.height + OFFSET_MARGIN + MAX_DEPTH) }
-        ensures value { result ≡ sum_by (λ position. plain_weight (lines_of slope from 1 more) (slice_get self.now.boxes position)) self.now.alive }
+        ensures value { result ≡ sum_by
+            (λ position. plain_weight (lines_of slope from 1 more) (slice_get self.now.boxes position)) self.now.alive }
         ensures small { result ≤ MAX_SCORE }
     {
         let mut total = 0;

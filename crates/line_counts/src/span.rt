@@ -1,7 +1,7 @@
 //! The places between which the members of a line stand.
 ghost use Rattle.std.specs.Prelude.{◌≡◌, ◌<◌, length, All};
 ghost use Rattle.line_quality.specs.Points.{IsSlope};
-ghost use Rattle.line_counts.specs.Blocks.{AreBetween, AreSpans};
+ghost use Rattle.line_counts.specs.Blocks.{AreBetween, AreSpans, IsHull};
 
 use crate::fit::{place, slope};
 use crate::limits::SLOPES;
@@ -37,6 +37,25 @@ fn span_of(slope: i8, boxes: &Rects, members: &[u32]) -> Span
         };
     }
     span
+}
+
+/// Between which places the members stand at any slope.
+pub(crate) fn hull_of(spans: &[Span]) -> Span
+    ensures { IsHull spans.now result }
+{
+    let mut hull = Span {
+        slope: LEAST_SLOPE,
+        first: usize::MAX,
+        last: 0,
+    };
+    for span in spans {
+        hull = Span {
+            slope: LEAST_SLOPE,
+            first: hull.first.min(span.first),
+            last: hull.last.max(span.last),
+        };
+    }
+    hull
 }
 
 /// Between which places they stand at each slope.

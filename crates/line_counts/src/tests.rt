@@ -1,7 +1,7 @@
 //! Values that were worked out by hand from the definitions.
 ghost use Rattle.std.specs.Prelude.{◌≡◌, ◌≤◌, ◌∷◌, [], IfOk, length};
 
-use crate::{Counts, Keys, Stretch};
+use crate::{Counts, Keys, Stretch, fits_table};
 use box_search::Shape;
 use layout_geom::{Numbers, Rect, Rects};
 use layout_limits::OutOfMemory;
@@ -131,41 +131,38 @@ fn parts_of_blocks_are_scored_by_their_own_lines(rt: HostRuntime) -> Result<(), 
         a1: 1,
         ..GRID
     };
-    let cases = [
-        ("no depth", Shape { c1: 1, ..level }, line_key(99, 0, 12, 0)),
-        (
-            "some offsets",
-            Shape {
-                b0: 12,
-                b1: 14,
-                ..level
-            },
-            line_key(100, 0, 12, 1),
-        ),
-        (
-            "one line",
-            Shape {
-                b0: 7,
-                b1: 8,
-                c0: 5,
-                c1: 6,
-                ..level
-            },
-            line_key(99, 0, 7, 5),
-        ),
-        (
-            "one line that scores too little",
-            Shape {
-                b0: 60,
-                b1: 61,
-                c0: 6,
-                ..level
-            },
-            0,
-        ),
-    ];
-    for (name, shape, key) in cases {
-        assert_eq!(rt; keys.bound(&shape), key, "{name}");
-    }
+    let no_depth = Shape { c1: 1, ..level };
+    assert_eq!(rt; keys.bound(&no_depth), line_key(99, 0, 12, 0));
+    let some_offsets = Shape {
+        b0: 12,
+        b1: 14,
+        ..level
+    };
+    assert_eq!(rt; keys.bound(&some_offsets), line_key(100, 0, 12, 1));
+    let one_line = Shape {
+        b0: 7,
+        b1: 8,
+        c0: 5,
+        c1: 6,
+        ..level
+    };
+    assert_eq!(rt; keys.bound(&one_line), line_key(99, 0, 7, 5));
+    let too_low = Shape {
+        b0: 60,
+        b1: 61,
+        c0: 6,
+        ..level
+    };
+    assert_eq!(rt; keys.bound(&too_low), 0);
+    Ok(())
+}
+
+#[test]
+fn pages_with_few_gutters_get_a_table(rt: HostRuntime) -> Result<(), Fail> {
+    let gutters = rects(rt.alloc(), &GUTTERS)?;
+    assert!(rt; fits_table(8192, &gutters));
+    let many = rects(rt.alloc(), &[(36, 0, 48, 41); 14])?;
+    assert!(rt; fits_table(7500, &many));
+    assert!(rt; !fits_table(8192, &many));
     Ok(())
 }

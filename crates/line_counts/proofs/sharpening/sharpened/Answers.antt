@@ -19,5 +19,5 @@ returns c =
       offsets = c.new.ensures.offsets;
       block = sharp_block c.args.counts.now c.args.least c.args.deepest c.args.number block c.requires.block c.requires.number c.requires.deep stretch of c.greatest.result c.new.result c.greatest.ensures
           (c.new.ensures.from ∙ from_is) c.new.ensures.offsets c.new.ensures.keys
-          (λ n. omega (arith, ap (λ (keys : List ℕ). get_or keys n 0) c.new.ensures.keys, c.new.ensures.greatest n));
+          c.new.ensures.greatest c.new.ensures.reached;
     }

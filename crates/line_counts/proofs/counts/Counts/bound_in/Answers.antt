@@ -1,7 +1,7 @@
 use Rattle.std.proofs.Common.{◌≡◌, ◌+ℤ◌, ℤ, pos, arith, ◌∙◌}
 use Rattle.std.proofs.lemmas.Int.{ints, clamps}
 use Rattle.line_counts.specs.Fits.{slope_of}
-use Rattle.line_counts.proofs.Parting.{block_passed, none_common, slope_more, all_slopes}
+use Rattle.line_counts.proofs.Parting.{block_passed, block_raises, none_common, slope_more, all_slopes}
 use Rattle.line_counts.proofs.counts.Counts.bound_in.Goals as goal
 
 pub returns-then-block-before : goal.returns-then-block-before
@@ -12,6 +12,11 @@ pub returns-then-offsets : goal.returns-then-offsets
 returns-then-offsets c =
     none_common c.args.self.now c.args.least c.args.deepest c.args.shape.now c.args.block.now c.requires.shape c.requires.block c.common-offsets.result c.args.before c.common-offsets.ensures
     (omega (arith, ints, clamps, c.if-offsets.true, c.common-offsets.ensures.from_offset, c.common-offsets.ensures.to_offset, c.requires.block.of_page, c.requires.block.low, c.requires.block.high, c.requires.shape.from_offset, c.requires.shape.some_offset, c.requires.shape.to_offset))
+
+pub returns-then-has_all : goal.returns-then-has_all
+returns-then-has_all c =
+    block_raises c.args.self.now c.args.least c.args.deepest c.args.shape.now c.args.block.now c.requires.shape c.requires.block c.args.before (c.has_all.ensures c.if-has_all.true)
+    (omega (arith, c.if-block-before.false))
 
 pub loop-number-preserved : goal.loop-number-preserved
 loop-number-preserved c =
