@@ -1,5 +1,5 @@
 -- What a box weighs at most for neighbouring lines of one slope, by its place, and what all boxes do, segment by segment.
-use Rattle.std.proofs.Common.{◌≡◌, ℕ, ◌+◌, ◌-◌, ◌*◌, ◌<◌, ◌≤◌, ℤ, pos, negsuc, ◌+ℤ◌, ◌-ℤ◌, ◌≤ℤ◌, unsigned_abs, Bool, true, false, ◌&&◌, eqb, leb, ltb, cond, List, length, Option, Some, None, slice_get, arith, refl, sym, ◌∙◌, ap}
+use Rattle.std.proofs.Common.{◌≡◌, ℕ, ◌+◌, ◌-◌, ◌*◌, ◌<◌, ◌≤◌, ℤ, pos, negsuc, ◌+ℤ◌, ◌-ℤ◌, ◌≤ℤ◌, unsigned_abs, Bool, true, false, ◌&&◌, eqb, leb, ltb, cond, List, length, get_or, Option, Some, None, slice_get, arith, refl, sym, ◌∙◌, ap}
 use Rattle.std.specs.List.{sum_by, count_by}
 use Rattle.std.specs.Int.{int_gap}
 use Rattle.std.proofs.Math.Nat.{mul-le-mul}
@@ -11,7 +11,7 @@ use Rattle.line_quality.specs.Points.{IsSlope, rise, height_at, middle_of, weigh
 use Rattle.line_quality.specs.KeyLaws.{abs_parts}
 use Rattle.line_counts.specs.Fits.{segment_of, is_in, place_in, place_of, first_place, count_of}
 use Rattle.line_counts.specs.Plain.{plain_weight, lowest, highest}
-use Rattle.line_counts.specs.Blocks.{lines_of, nearest_weight, plain_segment}
+use Rattle.line_counts.specs.Blocks.{lines_of, plain_segment}
 use Rattle.line_counts.proofs.Places.{rises_little, middle_small, weight_low}
 use Rattle.line_counts.proofs.Growing.{int_gap_is}
 use Rattle.line_counts.proofs.Weighing.{sum_before, sum_none, sum_next, sum_all, sum_two, same_sum, no_sum, low_sum, place_more}
@@ -59,6 +59,10 @@ nothing_before first more place before = far_weight _ (omega arith)
 pub nothing_behind : (first more place : ℕ) → first + (2 * 4 + more + 1) ≤ place → near_there first more place ≡ 0
 nothing_behind first more place behind = far_weight _ (omega arith)
 
+-- the same by how far behind the first place it is
+abbrev nearest_weight : ℕ → ℕ → ℕ
+nearest_weight more behind = weight_at ((4 - behind) + (behind - (4 + more)))
+
 near_behind : (first more behind : ℕ) → near_there first more (first + behind) ≡ nearest_weight more behind
 near_behind first more behind = ap weight_at (gaps first more behind)
   where
@@ -89,6 +93,53 @@ module _ (boxes gutters : List Rect) (slope from : ℤ) (more segment : ℕ) (in
   near_next behind total counted weighs positions is counted_is weighs_is =
       sum_next boxes gutters slope segment (plain_weight (lines_of slope from 1 more)) (near_there (first_place from) more) row_place (first_place from) behind total counted weighs positions is counted_is
       (near_behind (first_place from) more behind ∙ sym weighs_is)
+
+-- what the first four counts of a row weigh, above the first row
+abbrev pub head_of : List ℕ → ℕ
+head_of row = 9 * get_or row 0 0 + 16 * get_or row 1 0 + 21 * get_or row 2 0 + 24 * get_or row 3 0
+
+by_gap : (more behind gap : ℕ) → (4 - behind) + (behind - (4 + more)) ≡ gap → nearest_weight more behind ≡ weight_at gap
+by_gap more behind gap is = ap weight_at is
+
+module _ (boxes gutters : List Rect) (slope from : ℤ) (more segment : ℕ) (in_slopes : IsSlope slope) (above : negsuc 299 ≤ℤ from) (positions row : List ℕ)
+    (counts : (behind : ℕ) → behind < 9 + more → get_or row behind 0 ≡ count_of boxes gutters slope segment (first_place from + behind) positions) where
+  -- one place more
+  step : (behind total weighs gap : ℕ) → behind < 9 + more → (4 - behind) + (behind - (4 + more)) ≡ gap → weighs ≡ weight_at gap
+      → total ≡ near_before boxes gutters slope from more segment (first_place from + behind) positions
+      → total + get_or row behind 0 * weighs ≡ near_before boxes gutters slope from more segment (first_place from + (behind + 1)) positions
+  step behind total weighs gap within gap_is weighs_is is =
+      near_next boxes gutters slope from more segment in_slopes above behind total (get_or row behind 0) weighs positions is (counts behind within) (weighs_is ∙ sym (by_gap more behind gap gap_is))
+
+  -- the places above the first row
+  pub near_head : head_of row ≡ near_before boxes gutters slope from more segment (first_place from + 4) positions
+  near_head =
+      let none : 0 ≡ near_before boxes gutters slope from more segment (first_place from + 0) positions =
+      sym (near_none boxes gutters slope from more segment in_slopes above (first_place from + 0) positions (omega arith)) in
+      let first = step 0 0 9 4 (omega arith) (omega arith) refl none in
+      let second = step 1 (0 + get_or row 0 0 * 9) 16 3 (omega arith) (omega arith) refl first in
+      let third = step 2 (0 + get_or row 0 0 * 9 + get_or row 1 0 * 16) 21 2 (omega arith) (omega arith) refl second in
+      let fourth = step 3 (0 + get_or row 0 0 * 9 + get_or row 1 0 * 16 + get_or row 2 0 * 21) 24 1 (omega arith) (omega arith) refl third in
+      omega (arith, fourth)
+
+  -- a place between the rows
+  pub near_inside : (behind total : ℕ) → 4 ≤ behind → behind < 5 + more → total ≡ near_before boxes gutters slope from more segment (first_place from + behind) positions
+      → total + get_or row behind 0 * 25 ≡ near_before boxes gutters slope from more segment (first_place from + (behind + 1)) positions
+  near_inside behind total low high is = step behind total 25 0 (omega (arith, high)) (omega (arith, low, high)) refl is
+
+  -- the places below the last row
+  pub near_tail : (total : ℕ) → total ≡ near_before boxes gutters slope from more segment (first_place from + (5 + more)) positions
+      → total + get_or row (5 + more) 0 * 24 + get_or row (6 + more) 0 * 21 + get_or row (7 + more) 0 * 16 + get_or row (8 + more) 0 * 9
+      ≡ plain_segment boxes gutters slope from more segment positions
+  near_tail total is =
+      let first = step (5 + more) total 24 1 (omega arith) (omega arith) refl is in
+      let second = step (6 + more) (total + get_or row (5 + more) 0 * 24) 21 2 (omega arith) (omega arith) refl (at_next (5 + more) (6 + more) _ (omega arith) first) in
+      let third = step (7 + more) (total + get_or row (5 + more) 0 * 24 + get_or row (6 + more) 0 * 21) 16 3 (omega arith) (omega arith) refl (at_next (6 + more) (7 + more) _ (omega arith) second) in
+      let fourth = step (8 + more) (total + get_or row (5 + more) 0 * 24 + get_or row (6 + more) 0 * 21 + get_or row (7 + more) 0 * 16) 9 4 (omega arith) (omega arith) refl (at_next (7 + more) (8 + more) _ (omega arith) third) in
+      fourth ∙ near_all boxes gutters slope from more segment in_slopes above (first_place from + (8 + more + 1)) positions (omega arith)
+    where
+      at_next : (behind next total : ℕ) → behind + 1 ≡ next → total ≡ near_before boxes gutters slope from more segment (first_place from + (behind + 1)) positions
+          → total ≡ near_before boxes gutters slope from more segment (first_place from + next) positions
+      at_next behind next total same there = there ∙ ap (λ (n : ℕ). near_before boxes gutters slope from more segment (first_place from + n) positions) same
 
 cond_low : (b : Bool) (w : ℕ) → w ≤ 25 → cond b w 0 ≤ 25
 cond_low true w low = low

@@ -1,6 +1,6 @@
 -- Blocks of offsets with a key for each slope, and how the keys stay bounds as boxes go.
 use Rattle.std.specs.Prelude.{◌≡◌, ℕ, ◌+◌, ◌*◌, ◌<◌, ◌≤◌, ◌⊎◌, ℤ, pos, ◌+ℤ◌, ◌≤ℤ◌}
-use Rattle.std.specs.Prelude.{◌<ℤ◌, ◌-◌, cond, List, length, Any, ◌++◌, slice_index, slice_index_or, slice_get, IfSome, All}
+use Rattle.std.specs.Prelude.{◌<ℤ◌, cond, List, length, Any, ◌++◌, slice_index, slice_index_or, slice_get, IfSome, All}
 use Rattle.std.specs.List.{sum_by}
 use Rattle.std.specs.Int.{int_min, int_max}
 use Rattle.std.specs.List.Sorted.{IsPermutation}
@@ -13,7 +13,6 @@ use Rattle.line_counts.specs.declared.blocks.TheConstants.{MAX_BLOCK}
 use Rattle.line_counts.specs.declared.span.Span.{Span}
 use Rattle.line_counts.specs.declared.limits.TheConstants.{REACH, SLOPES}
 use Rattle.line_quality.specs.declared.limits.TheConstants.{LEAST_SLOPE, MAX_SLOPE, LEAST_OFFSET, OFFSET_MARGIN, MAX_DEPTH}
-use Rattle.line_quality.specs.Points.{weight_at}
 use Rattle.line_counts.specs.Fits.{slope_of, place_of, first_place, is_in}
 use Rattle.line_counts.specs.KeyTables.{IsKeyInShape}
 use Rattle.line_counts.specs.Plain.{plain_key, plain_weight}
@@ -106,11 +105,7 @@ pub record WereBlocks (page : LivingPage) (least deepest : ℕ) (members : List 
   pub divided : IsPermutation alive (members ++ page.alive)
   pub were : AreBlocks (with_alive page alive) least deepest blocks
 
--- what a box weighs at most for a row and so many more below it, whose place is so many behind the first that weighs something
-abbrev pub nearest_weight : ℕ → ℕ → ℕ
-nearest_weight more behind = weight_at ((REACH - behind) + (behind - (REACH + more)))
-
--- what the boxes of a segment weigh at most together for them
+-- what the boxes of a segment weigh at most together for a row and so many more below it
 abbrev pub plain_segment : List Rect → List Rect → ℤ → ℤ → ℕ → ℕ → List ℕ → ℕ
 plain_segment boxes gutters slope from more segment positions = sum_by
     (λ position. cond (is_in gutters segment (slice_get boxes position))

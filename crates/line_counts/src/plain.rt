@@ -10,9 +10,7 @@ use crate::blocks::MAX_BLOCK;
 use crate::counts::Counts;
 use crate::limits::REACH;
 use layout_limits::MAX_SIDE;
-use line_quality::{
-    LEAST_OFFSET, MAX_DEPTH, MAX_SCORE, MAX_WEIGHT, OFFSET_MARGIN, line_key, weight_at,
-};
+use line_quality::{LEAST_OFFSET, MAX_DEPTH, MAX_SCORE, OFFSET_MARGIN, line_key};
 
 /// How many rows the lines of some neighbouring offsets and their descenders take beside the first.
 pub(crate) fn more_rows(offsets: u16, deepest: u8) -> u8
@@ -24,20 +22,9 @@ pub(crate) fn more_rows(offsets: u16, deepest: u8) -> u8
     (offsets - 1) as u8 + deepest
 }
 
-/// What a box weighs at most for one of a row and so many more, whose place is so many places behind the first that weighs
-/// something.
-fn nearest_weight(more: u8, behind: usize) -> u32
-    requires { behind ≤ 1000 }
-    ensures value { result ≡ Blocks.nearest_weight more behind }
-    ensures small { result ≤ MAX_WEIGHT }
-{
-    let above = (REACH as u32).saturating_sub(behind as u32);
-    let below = (behind as u32).saturating_sub(REACH as u32 + more as u32);
-    weight_at(above + below)
-}
-
 impl Counts {
-    /// What the boxes of a segment weigh at most together for lines of a slope and some offsets.
+    /// What the boxes of a segment weigh at most together for one of a row and so many more of a slope: 25 where they stand between
+    /// the rows, and less above the first and below the last.
     fn plain_segment(&self, slope: i8, from: i16, more: u8, of_segment: usize) -> u32
         requires slope { IsSlope slope }
         requires low { LEAST_OFFSET ≤ℤ from }
@@ -46,11 +33,17 @@ impl Counts {
         ensures value { result ≡ Blocks.plain_segment self.now.boxes self.now.gutters slope from more of_segment self.now.alive }
         ensures small { result ≤ MAX_SCORE }
     {
-        let mut total = 0;
-        for (behind, count) in self.row(slope, from, more, of_segment).iter().enumerate() {
-            total += *count as u32 * nearest_weight(more, behind);
+        let row = self.row(slope, from, more, of_segment);
+        let last = REACH as usize + more as usize;
+        let mut inside = 0;
+        for behind in REACH as usize..last + 1 {
+            inside += row[behind] as u32;
         }
-        total
+        9 * (row[0] as u32 + row[last + 4] as u32)
+            + 16 * (row[1] as u32 + row[last + 3] as u32)
+            + 21 * (row[2] as u32 + row[last + 2] as u32)
+            + 24 * (row[3] as u32 + row[last + 1] as u32)
+            + 25 * inside
     }
 
     /// What all boxes weigh at most together for them.
