@@ -94,40 +94,6 @@ module _ (page : LivingPage) (least : ℕ) (slope offset : ℤ) (depth score in_
   no_key_of_line little = no_key (IsKeyAt page least slope offset depth)
       (λ k at. omega (arith, little, at.enough, (same_score slope offset depth page.boxes page.gutters page.alive at.score score at.in_column in_column at.scored scored).0))
 
--- some line of the offset has the key, of a depth in a range that ends before one
-pub record IsKeyAmong (page : LivingPage) (least : ℕ) (slope offset : ℤ) (from to key : ℕ) : Type 0 where
-  pub depth : ℕ
-  pub from_depth : from ≤ depth
-  pub to_depth : depth < to
-  pub at : IsKeyAt page least slope offset depth key
-
-module _ (page : LivingPage) (least : ℕ) (slope offset : ℤ) (from : ℕ) where
-  pub no_depth : (before : ℕ) → IsGreaterKey (IsKeyAmong page least slope offset from from) before before
-  no_depth before = none_since (IsKeyAmong page least slope offset from from) before (λ k among. absurd (omega (arith, among.from_depth, among.to_depth)))
-
-  among_cases : (to key : ℕ) → IsKeyAmong page least slope offset from (to + 1) key → IsKeyAt page least slope offset to key ⊎ IsKeyAmong page least slope offset from to key
-  among_cases to key among = ⊎_elim
-      (λ less. inr (record { depth = among.depth; from_depth = among.from_depth; to_depth = less; at = among.at }))
-      (λ more. let same : among.depth ≡ to = omega (arith, among.to_depth, more) in inl (subst (λ (d : ℕ). IsKeyAt page least slope offset d key) same among.at))
-      (cases_lt among.depth to)
-
-  -- one more depth
-  pub depth_more : (to before best more : ℕ) → from ≤ to → IsGreaterKey (IsKeyAmong page least slope offset from to) before best
-      → IsGreaterKey (IsKeyAt page least slope offset to) best more → IsGreaterKey (IsKeyAmong page least slope offset from (to + 1)) before more
-  depth_more to before best more low =
-      both_since (IsKeyAmong page least slope offset from to) (IsKeyAt page least slope offset to) (IsKeyAmong page least slope offset from (to + 1)) before best more
-      (λ k among. record { depth = among.depth; from_depth = among.from_depth; to_depth = omega (arith, among.to_depth); at = among.at })
-      (λ k at. record { depth = to; from_depth = low; to_depth = omega arith; at = at })
-      (among_cases to)
-
-  -- all depths
-  pub depth_all : (to deepest before key : ℕ) → to ≡ deepest + 1 → IsGreaterKey (IsKeyAmong page least slope offset from to) before key → IsGreaterKey (IsKeyOf page least slope offset from deepest) before key
-  depth_all to deepest before key last all =
-      renamed_since (IsKeyAmong page least slope offset from to) (IsKeyOf page least slope offset from deepest) before key
-      (λ k among. record { depth = among.depth; from_depth = among.from_depth; to_depth = omega (arith, last, among.to_depth); at = among.at })
-      (λ k of. record { depth = of.depth; from_depth = of.from_depth; to_depth = omega (arith, last, of.to_depth); at = of.at })
-      all
-
 -- the first offsets of a stretch
 abbrev pub first_of : Stretch → ℕ → Stretch
 first_of stretch count = record stretch { offsets = count }
@@ -187,67 +153,67 @@ begun_with P Q before first word among = both_since P Q Q before first word amon
 abbrev pub row_at : Stretch → ℕ → Stretch
 row_at stretch depth = record stretch { shallowest = depth; deepest = depth }
 
--- some line of the stretch has the key, of a depth before one
-pub record IsKeyAbove (page : LivingPage) (least : ℕ) (stretch : Stretch) (to key : ℕ) : Type 0 where
+-- some line of the stretch has the key, of a depth from one on
+pub record IsKeyFrom (page : LivingPage) (least : ℕ) (stretch : Stretch) (from key : ℕ) : Type 0 where
   pub offset : ℤ
   pub from_offset : stretch.from ≤ℤ offset
   pub to_offset : offset <ℤ (stretch.from +ℤ pos stretch.offsets)
-  pub of : IsKeyAmong page least stretch.slope offset stretch.shallowest to key
+  pub of : IsKeyOf page least stretch.slope offset from stretch.deepest key
 
 module _ (page : LivingPage) (least : ℕ) (stretch : Stretch) where
-  pub no_row : (before : ℕ) → IsGreaterKey (IsKeyAbove page least stretch stretch.shallowest) before before
-  no_row before = none_since (IsKeyAbove page least stretch stretch.shallowest) before (λ k above. absurd (omega (arith, above.of.from_depth, above.of.to_depth)))
+  pub no_row : (from before : ℕ) → from ≡ stretch.deepest + 1 → IsGreaterKey (IsKeyFrom page least stretch from) before before
+  no_row from before is = none_since (IsKeyFrom page least stretch from) before (λ k some. absurd (omega (arith, is, some.of.from_depth, some.of.to_depth)))
 
-  row_cases : (to key : ℕ) → IsKeyAbove page least stretch (to + 1) key → IsKeyIn page least (row_at stretch to) key ⊎ IsKeyAbove page least stretch to key
-  row_cases to key above = ⊎_elim
-      (λ less. inr (record {
-        offset = above.offset;
-        from_offset = above.from_offset;
-        to_offset = above.to_offset;
-        of = record { depth = above.of.depth; from_depth = above.of.from_depth; to_depth = less; at = above.of.at };
+  row_cases : (from key : ℕ) → IsKeyFrom page least stretch from key → IsKeyIn page least (row_at stretch from) key ⊎ IsKeyFrom page least stretch (from + 1) key
+  row_cases from key some = ⊎_elim
+      (λ less. inl (record {
+        offset = some.offset;
+        from_offset = some.from_offset;
+        to_offset = some.to_offset;
+        of = record { depth = some.of.depth; from_depth = some.of.from_depth; to_depth = omega (arith, less); at = some.of.at };
       }))
-      (λ more. inl (record {
-        offset = above.offset;
-        from_offset = above.from_offset;
-        to_offset = above.to_offset;
-        of = record { depth = above.of.depth; from_depth = more; to_depth = omega (arith, above.of.to_depth); at = above.of.at };
+      (λ more. inr (record {
+        offset = some.offset;
+        from_offset = some.from_offset;
+        to_offset = some.to_offset;
+        of = record { depth = some.of.depth; from_depth = more; to_depth = some.of.to_depth; at = some.of.at };
       }))
-      (cases_lt above.of.depth to)
+      (cases_lt some.of.depth (from + 1))
 
-  -- one more depth
-  pub row_more : (to before best more : ℕ) → stretch.shallowest ≤ to → IsGreaterKey (IsKeyAbove page least stretch to) before best
-      → IsGreaterKey (IsKeyIn page least (row_at stretch to)) best more → IsGreaterKey (IsKeyAbove page least stretch (to + 1)) before more
-  row_more to before best more low =
-      both_since (IsKeyAbove page least stretch to) (IsKeyIn page least (row_at stretch to)) (IsKeyAbove page least stretch (to + 1)) before best more
-      (λ k above. record {
-        offset = above.offset;
-        from_offset = above.from_offset;
-        to_offset = above.to_offset;
-        of = record { depth = above.of.depth; from_depth = above.of.from_depth; to_depth = omega (arith, above.of.to_depth); at = above.of.at };
+  -- one depth more, before the others
+  pub row_more : (from before best more : ℕ) → from ≤ stretch.deepest → IsGreaterKey (IsKeyFrom page least stretch (from + 1)) before best
+      → IsGreaterKey (IsKeyIn page least (row_at stretch from)) best more → IsGreaterKey (IsKeyFrom page least stretch from) before more
+  row_more from before best more low =
+      both_since (IsKeyFrom page least stretch (from + 1)) (IsKeyIn page least (row_at stretch from)) (IsKeyFrom page least stretch from) before best more
+      (λ k some. record {
+        offset = some.offset;
+        from_offset = some.from_offset;
+        to_offset = some.to_offset;
+        of = record { depth = some.of.depth; from_depth = omega (arith, some.of.from_depth); to_depth = some.of.to_depth; at = some.of.at };
       })
       (λ k is. record {
         offset = is.offset;
         from_offset = is.from_offset;
         to_offset = is.to_offset;
-        of = record { depth = is.of.depth; from_depth = omega (arith, low, is.of.from_depth); to_depth = omega (arith, is.of.to_depth); at = is.of.at };
+        of = record { depth = is.of.depth; from_depth = is.of.from_depth; to_depth = omega (arith, low, is.of.to_depth); at = is.of.at };
       })
-      (row_cases to)
+      (row_cases from)
 
   -- all depths
-  pub row_all : (to before key : ℕ) → to ≡ stretch.deepest + 1 → IsGreaterKey (IsKeyAbove page least stretch to) before key → IsGreaterKey (IsKeyIn page least stretch) before key
-  row_all to before key last all =
-      renamed_since (IsKeyAbove page least stretch to) (IsKeyIn page least stretch) before key
-      (λ k above. record {
-        offset = above.offset;
-        from_offset = above.from_offset;
-        to_offset = above.to_offset;
-        of = record { depth = above.of.depth; from_depth = above.of.from_depth; to_depth = omega (arith, last, above.of.to_depth); at = above.of.at };
+  pub row_all : (from before key : ℕ) → from ≡ stretch.shallowest → IsGreaterKey (IsKeyFrom page least stretch from) before key → IsGreaterKey (IsKeyIn page least stretch) before key
+  row_all from before key first all =
+      renamed_since (IsKeyFrom page least stretch from) (IsKeyIn page least stretch) before key
+      (λ k some. record {
+        offset = some.offset;
+        from_offset = some.from_offset;
+        to_offset = some.to_offset;
+        of = record { depth = some.of.depth; from_depth = omega (arith, first, some.of.from_depth); to_depth = some.of.to_depth; at = some.of.at };
       })
       (λ k is. record {
         offset = is.offset;
         from_offset = is.from_offset;
         to_offset = is.to_offset;
-        of = record { depth = is.of.depth; from_depth = is.of.from_depth; to_depth = omega (arith, last, is.of.to_depth); at = is.of.at };
+        of = record { depth = is.of.depth; from_depth = omega (arith, first, is.of.from_depth); to_depth = is.of.to_depth; at = is.of.at };
       })
       all
 

@@ -15,7 +15,7 @@ use Rattle.line_counts.specs.Fits.{slope_of, first_place}
 use Rattle.line_counts.specs.Shapes.{least_depth}
 use Rattle.line_counts.specs.Plain.{plain_weight, plain_key, nearest_slope}
 use Rattle.line_counts.specs.Table.{LivingPage}
-use Rattle.line_counts.specs.Stretches.{IsKeyAt, IsKeyIn, IsOfPage}
+use Rattle.line_counts.specs.Stretches.{IsSharper, IsKeyAt, IsKeyIn, IsOfPage}
 use Rattle.line_counts.specs.KeyTables.{IsKeyInShape}
 use Rattle.line_counts.specs.Blocks.{IsKeyBound, AreKeyBounds, IsBlock, IsRenewed, WasBlock, IsHull, Misses, lines_of, with_alive}
 use Rattle.line_counts.proofs.Places.{slope_in, held_in_grid}
@@ -129,15 +129,18 @@ module _ (page : LivingPage) (least : ℕ) (slope from : ℤ) (offsets deepest :
     at = is.of.at;
   }
 
-  -- so the greatest key of the stretch is a bound where another was
-  pub exact_bound : (bound key : ℕ) → IsKeyBound page least (lines_of slope from offsets deepest) bound → IsGreatestKey (IsKeyIn page least stretch) key
+  -- so a sharper bound of the stretch is one where another was
+  pub sharper_bound : (bound key : ℕ) → IsKeyBound page least (lines_of slope from offsets deepest) bound → IsSharper (IsKeyIn page least stretch) bound key
       → IsKeyBound page least (lines_of slope from offsets deepest) key
-  exact_bound bound key is exact = record {
-    over = λ k some. exact.greatest k (in_stretch k some);
+  sharper_bound bound key is sharper = record {
+    over = λ k some. sharper.over k (in_stretch k some);
     plain = ⊎_elim
+        (λ (less : key < bound). omega (arith, less, is.plain))
+        (λ (exact : IsGreatestKey (IsKeyIn page least stretch) key). ⊎_elim
         (λ (none : key ≡ 0). omega (arith, none))
         (λ (some : IsKeyIn page least stretch key). omega (arith, is.over key (in_lines key some), is.plain))
-        exact.sound;
+        exact.sound)
+        sharper.low;
   }
 
 -- the block of some offsets and their bounds
@@ -224,13 +227,13 @@ module _ (page : LivingPage) (least deepest number : ℕ) (block : Block) (is : 
     shallow = omega (arith, of.all_deep, deep);
   }
 
-  -- and a block stays one where their key is made exact
-  pub sharp_block : (key : ℕ) (new : Block) → IsGreatestKey (IsKeyIn page least stretch) key → new.from ≡ block.from → new.offsets ≡ block.offsets → new.keys ≡ set block.keys number key
+  -- and a block stays one where their key is made sharper
+  pub sharp_block : (key : ℕ) (new : Block) → IsSharper (IsKeyIn page least stretch) (get_or block.keys number 0) key → new.from ≡ block.from → new.offsets ≡ block.offsets → new.keys ≡ set block.keys number key
       → ((n : ℕ) → get_or new.keys n 0 ≤ new.greatest) → ((n : ℕ) × (n < 65) × (get_or new.keys n 0 ≡ new.greatest)) → IsBlock page least deepest new
-  sharp_block key new exact from_is offsets_is keys_is greatest reached =
+  sharp_block key new sharper from_is offsets_is keys_is greatest reached =
       let within : number < length block.keys = omega (arith, numbered, is.keys.long) in
       let bound : IsKeyBound page least (lines_of (slope_of number) block.from block.offsets deepest) key =
-      exact_bound page least (slope_of number) block.from block.offsets deepest stretch of (get_or block.keys number 0) key (is.keys.each number numbered) exact in
+      sharper_bound page least (slope_of number) block.from block.offsets deepest stretch of (get_or block.keys number 0) key (is.keys.each number numbered) sharper in
       let keys : AreKeyBounds page least deepest block.from block.offsets (set block.keys number key) = record {
         long = length-set block.keys number key ∙ is.keys.long;
         each = each_set (λ (n k : ℕ). IsKeyBound page least (lines_of (slope_of n) block.from block.offsets deepest) k) block.keys number key 0 65 within bound is.keys.each;

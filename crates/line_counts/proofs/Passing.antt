@@ -1,5 +1,5 @@
 -- Why a line is passed over that cannot score enough for a greater key.
-use Rattle.std.proofs.Common.{◌≡◌, ℕ, ◌+◌, ◌*◌, ◌/◌, ◌^◌, ◌<◌, ◌≤◌, max, ℤ, pos, negsuc, ◌+ℤ◌, ◌-ℤ◌, ◌≤ℤ◌, ◌<ℤ◌, unsigned_abs, length, arith, sym, subst}
+use Rattle.std.proofs.Common.{◌≡◌, ℕ, ◌+◌, ◌*◌, ◌/◌, ◌^◌, ◌<◌, ◌≤◌, min, max, ℤ, pos, negsuc, ◌+ℤ◌, ◌-ℤ◌, ◌≤ℤ◌, ◌<ℤ◌, unsigned_abs, length, arith, sym, subst}
 use Rattle.std.proofs.lemmas.Int.{ints}
 use Rattle.line_quality.specs.KeyLaws.{abs_parts}
 use Rattle.line_quality.specs.Keys.{line_key}
@@ -80,3 +80,34 @@ stretch_passed page stretch least best most needed is little low = none_since (I
     subst (λ (o : ℤ). IsKeyAt page least stretch.slope o within.of.depth key) there.2 within.of.at in
     let below : at.score ≤ most = low there.0 within.of.depth at.score at.in_column there.1 within.of.to_depth at.scored in
     less_key at.score best key (omega (arith, at.has_key, key_below at.score stretch.slope (stretch.from +ℤ pos there.0) within.of.depth)) (omega (arith, is, little, below, at.enough)))
+
+-- a line that scores no more has no greater key than the first line of the stretch would have
+key_rises : (score top : ℕ) (slope from offset : ℤ) (shallowest depth : ℕ) → negsuc 299 ≤ℤ from → from ≤ℤ offset → score ≤ top → shallowest ≤ depth → line_key score slope offset depth ≤ line_key top slope from shallowest
+key_rises score top slope from offset shallowest depth low order less shallow = omega (arith, ints, less, shallow, abs_parts (from +ℤ pos 300), abs_parts (offset +ℤ pos 300))
+
+pub stretch_over : (page : LivingPage) (stretch : Stretch) (least most top : ℕ) → length page.alive ≤ 60000 → negsuc 299 ≤ℤ stretch.from → top ≡ min most 1500000
+    → ((more depth score k : ℕ) → more < stretch.offsets → depth ≤ stretch.deepest → IsScore stretch.slope (stretch.from +ℤ pos more) depth page.boxes page.gutters page.alive score k → score ≤ most)
+    → (key : ℕ) → IsKeyIn page least stretch key → key ≤ line_key top stretch.slope stretch.from stretch.shallowest
+stretch_over page stretch least most top few first is low key within =
+    let there = behind_first stretch.from within.offset stretch.offsets within.from_offset within.to_offset in
+    let at : IsKeyAt page least stretch.slope (stretch.from +ℤ pos there.0) within.of.depth key =
+    subst (λ (o : ℤ). IsKeyAt page least stretch.slope o within.of.depth key) there.2 within.of.at in
+    let below : at.score ≤ most = low there.0 within.of.depth at.score at.in_column there.1 within.of.to_depth at.scored in
+    let small : at.score ≤ 1500000 = score_small page stretch.slope (stretch.from +ℤ pos there.0) within.of.depth at.score at.in_column few at.scored in
+    omega (
+      arith,
+      at.has_key,
+      key_rises at.score top stretch.slope stretch.from (stretch.from +ℤ pos there.0) stretch.shallowest within.of.depth first (no_less stretch.from there.0) (omega (arith, is, below, small)) within.of.from_depth,
+    )
+  where
+    no_less : (from : ℤ) (more : ℕ) → from ≤ℤ (from +ℤ pos more)
+    no_less from more = omega (arith, ints)
+
+pub stretch_empty : (page : LivingPage) (stretch : Stretch) (least most : ℕ) → most < least
+    → ((more depth score k : ℕ) → more < stretch.offsets → depth ≤ stretch.deepest → IsScore stretch.slope (stretch.from +ℤ pos more) depth page.boxes page.gutters page.alive score k → score ≤ most)
+    → (key : ℕ) → IsKeyIn page least stretch key → key ≤ 0
+stretch_empty page stretch least most little low key within =
+    let there = behind_first stretch.from within.offset stretch.offsets within.from_offset within.to_offset in
+    let at : IsKeyAt page least stretch.slope (stretch.from +ℤ pos there.0) within.of.depth key =
+    subst (λ (o : ℤ). IsKeyAt page least stretch.slope o within.of.depth key) there.2 within.of.at in
+    absurd (omega (arith, little, at.enough, low there.0 within.of.depth at.score at.in_column there.1 within.of.to_depth at.scored))

@@ -3,6 +3,7 @@ use Rattle.std.specs.Prelude.{◌≡◌, ℕ, ◌+◌, ◌*◌, ◌<◌, ◌≤�
 use Rattle.layout_limits.specs.declared.TheConstants.{MAX_SIDE}
 use Rattle.line_quality.specs.declared.limits.TheConstants.{LEAST_OFFSET, OFFSET_MARGIN, MAX_DEPTH}
 use Rattle.line_quality.specs.Points.{IsSlope}
+use Rattle.box_search.specs.Search.{IsGreatestKey}
 use Rattle.line_quality.specs.Keys.{line_key}
 use Rattle.line_quality.specs.Scores.{IsScore}
 use Rattle.line_counts.specs.declared.stretch.Stretch.{Stretch}
@@ -35,6 +36,11 @@ pub record IsGreaterKey (admits : ℕ → Type 0) (before word : ℕ) : Type 0 w
   pub from : (word ≡ before) ⊎ admits word
   pub no_less : before ≤ word
   pub greatest : (key : ℕ) → admits key → (0 < word) × (key ≤ word)
+
+-- none of these keys is greater than the bound, which is less than the one before or one of them
+pub record IsSharper (admits : ℕ → Type 0) (before bound : ℕ) : Type 0 where
+  pub over : (key : ℕ) → admits key → key ≤ bound
+  pub low : (bound < before) ⊎ IsGreatestKey admits bound
 
 -- the stretch is of the grid of a page of this height
 pub record IsOfPage (height : ℕ) (stretch : Stretch) : Type 0 where

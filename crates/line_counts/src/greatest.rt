@@ -4,7 +4,7 @@ ghost use Rattle.box_search.specs.Search.{IsGreatestKey};
 ghost use Rattle.line_quality.specs.Points.{IsSlope, IsOffset, IsDepth};
 ghost use Rattle.line_quality.specs.Keys;
 ghost use Rattle.line_quality.specs.Scores.{IsScore};
-ghost use Rattle.line_counts.specs.Stretches.{IsKeyAt, IsKeyOf, IsKeyIn, IsOfPage, IsGreaterKey};
+ghost use Rattle.line_counts.specs.Stretches.{IsKeyAt, IsKeyOf, IsKeyIn, IsOfPage, IsGreaterKey, IsSharper};
 ghost use Rattle.line_counts.specs.Tops.{AreParts, AreTops};
 
 use crate::counts::Counts;
@@ -169,7 +169,7 @@ impl Counts {
         best
     }
 
-    /// The best key so far, or a greater one of the lines of a part of a stretch.
+    /// The best key so far, or a greater one of the lines of a part of a stretch. The deepest come first, since they mostly score most.
     fn greatest_in(&self, stretch: &Stretch, least: u32, before: u64) -> u64
         requires of_page { IsOfPage self.now.height stretch.now }
         requires some { 0 < stretch.now.offsets }
@@ -181,11 +181,43 @@ impl Counts {
             return before;
         }
         let mut best = before;
-        for depth in stretch.shallowest..stretch.deepest + 1 {
+        for less in 0..stretch.deepest - stretch.shallowest + 1 {
+            let depth = stretch.deepest - less;
             let tops = tops(&parts, depth);
             best = self.greatest_of(&row_of(stretch, depth), &tops, least, best);
         }
         best
+    }
+
+    /// A bound of the lines of a stretch that score at least so much, by the greatest bell alone.
+    fn rough(&self, stretch: &Stretch, least: u32) -> u64
+        requires of_page { IsOfPage self.now.height stretch.now }
+        requires some { 0 < stretch.now.offsets }
+        requires few { stretch.now.offsets ≤ BATCH }
+        ensures { (key : ℕ) → IsKeyIn self.now least stretch.now key → key ≤ result }
+    {
+        let parts = self.parts(stretch);
+        let score = 2 * greatest_bell(&parts) as u64;
+        if score < least as u64 {
+            return 0;
+        }
+        let score = score.min(MAX_SCORE as u64) as u32;
+        line_key(score, stretch.slope, stretch.from, stretch.shallowest)
+    }
+
+    /// A bound of the lines of a stretch that score at least so much: a rough one where that is less than the one before, and
+    /// else their greatest key.
+    pub(crate) fn sharper(&self, stretch: &Stretch, least: u32, before: u64) -> u64
+        requires of_page { IsOfPage self.now.height stretch.now }
+        requires some { 0 < stretch.now.offsets }
+        requires few { stretch.now.offsets ≤ BATCH }
+        ensures { IsSharper (IsKeyIn self.now least stretch.now) before result }
+    {
+        let rough = self.rough(stretch, least);
+        if rough < before {
+            return rough;
+        }
+        self.greatest(stretch, least)
     }
 
     /// The greatest key of the lines of a stretch whose score among the living boxes is at least so much, or 0 where

@@ -1,4 +1,4 @@
-//! Keys of blocks that are made exact.
+//! Keys of blocks that are made less, until they are exact.
 ghost use Rattle.std.specs.Prelude.{◌≡◌, ◌+◌, ◌<◌, ◌≤◌, pos, ◌+ℤ◌, ◌≤ℤ◌, length};
 ghost use Rattle.line_quality.specs.Points.{IsSlope};
 ghost use Rattle.line_counts.specs.Blocks.{IsBlock, IsRenewed};
@@ -24,7 +24,7 @@ pub(crate) fn greatest_block(blocks: &[Block]) -> usize
     best
 }
 
-/// The block with the key of the slope of a number made exact.
+/// The block with a lesser key of the slope of a number, or the exact one.
 pub(crate) fn sharpened(
     counts: &Counts,
     block: &Block,
@@ -45,6 +45,6 @@ pub(crate) fn sharpened(
         deepest,
     };
     let mut keys = block.keys;
-    keys[number] = counts.greatest(&lines, least);
+    keys[number] = counts.sharper(&lines, least, keys[number]);
     Block::new(block.from, block.offsets, keys)
 }

@@ -17,7 +17,7 @@ returns c =
     record {
       from_offset = c.new.ensures.from ∙ from_is;
       offsets = c.new.ensures.offsets;
-      block = sharp_block c.args.counts.now c.args.least c.args.deepest c.args.number block c.requires.block c.requires.number c.requires.deep stretch of c.greatest.result c.new.result c.greatest.ensures
+      block = sharp_block c.args.counts.now c.args.least c.args.deepest c.args.number block c.requires.block c.requires.number c.requires.deep stretch of c.sharper.result c.new.result c.sharper.ensures
           (c.new.ensures.from ∙ from_is) c.new.ensures.offsets c.new.ensures.keys
           c.new.ensures.greatest c.new.ensures.reached;
     }
