@@ -1,5 +1,5 @@
 -- How a key stays a bound of its lines, as boxes go and as it is made exact.
-use Rattle.std.proofs.Common.{◌≡◌, ℕ, ◌+◌, ◌*◌, ◌^◌, ◌<◌, ◌≤◌, min, ℤ, pos, negsuc, ◌+ℤ◌, ◌-ℤ◌, ◌≤ℤ◌, ◌<ℤ◌, unsigned_abs, to_z, of_z, w16, List, get_or, set, get_or-set_same, get_or-set_other, length, inl, inr, ⊎_elim, slice_get, arith, refl, sym, ap, ◌∙◌, subst}
+use Rattle.std.proofs.Common.{◌≡◌, ℕ, ◌+◌, ◌<◌, ◌≤◌, min, ℤ, pos, negsuc, ◌+ℤ◌, ◌≤ℤ◌, ◌<ℤ◌, to_z, of_z, w16, List, get_or, set, get_or-set_same, get_or-set_other, length, inl, inr, ⊎_elim, slice_get, arith, refl, sym, ap, ◌∙◌, subst}
 use Rattle.std.specs.List.{sum_by}
 use Rattle.std.proofs.Math.ListN.{length-set}
 use Rattle.std.proofs.lemmas.Int.{ints, clamps}
@@ -11,13 +11,13 @@ use Rattle.line_quality.specs.Keys.{line_key}
 use Rattle.line_counts.specs.declared.block.Block.{Block}
 use Rattle.line_counts.specs.declared.span.Span.{Span}
 use Rattle.line_counts.specs.declared.stretch.Stretch.{Stretch}
-use Rattle.line_counts.specs.Fits.{slope_of, first_place}
+use Rattle.line_counts.specs.Fits.{slope_of}
 use Rattle.line_counts.specs.Shapes.{least_depth}
 use Rattle.line_counts.specs.Plain.{plain_weight, plain_key, nearest_slope}
 use Rattle.line_counts.specs.Table.{LivingPage}
 use Rattle.line_counts.specs.Stretches.{IsSharper, IsKeyAt, IsKeyIn, IsOfPage}
 use Rattle.line_counts.specs.KeyTables.{IsKeyInShape}
-use Rattle.line_counts.specs.Blocks.{IsKeyBound, AreKeyBounds, IsBlock, IsRenewed, WasBlock, IsHull, Misses, lines_of, with_alive}
+use Rattle.line_counts.specs.Blocks.{IsKeyBound, AreKeyBounds, IsBlock, IsRenewed, WasBlock, IsHull, Misses, lines_of}
 use Rattle.line_counts.proofs.Places.{slope_in, held_in_grid}
 use Rattle.line_counts.proofs.Growing.{line_below, score_within}
 use Rattle.line_counts.proofs.Nearing.{same_rows}

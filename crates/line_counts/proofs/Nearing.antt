@@ -1,15 +1,15 @@
 -- What a box weighs at most for neighbouring lines of one slope, by its place, and what all boxes do, segment by segment.
-use Rattle.std.proofs.Common.{◌≡◌, ℕ, ◌+◌, ◌-◌, ◌*◌, ◌<◌, ◌≤◌, ℤ, pos, negsuc, ◌+ℤ◌, ◌-ℤ◌, ◌≤ℤ◌, unsigned_abs, Bool, true, false, ◌&&◌, eqb, leb, ltb, cond, List, length, get_or, Option, Some, None, slice_get, arith, refl, sym, ◌∙◌, ap}
-use Rattle.std.specs.List.{sum_by, count_by}
+use Rattle.std.proofs.Common.{◌≡◌, ℕ, ◌+◌, ◌-◌, ◌*◌, ◌<◌, ◌≤◌, ℤ, pos, negsuc, ◌+ℤ◌, ◌-ℤ◌, ◌≤ℤ◌, unsigned_abs, Bool, true, false, leb, ltb, cond, List, length, get_or, Option, Some, None, slice_get, arith, refl, sym, ◌∙◌, ap}
+use Rattle.std.specs.List.{sum_by}
 use Rattle.std.specs.Int.{int_gap}
 use Rattle.std.proofs.Math.Nat.{mul-le-mul}
 use Rattle.std.proofs.lemmas.Int.{ints}
 use Rattle.std.proofs.lemmas.List.Sums.{count_by-le-length}
 use Rattle.std.proofs.lemmas.Bool.Decides.{nat_tests}
 use Rattle.layout_geom.specs.declared.rect.Rect.{Rect}
-use Rattle.line_quality.specs.Points.{IsSlope, rise, height_at, middle_of, weight_at}
+use Rattle.line_quality.specs.Points.{IsSlope, rise, middle_of, weight_at}
 use Rattle.line_quality.specs.KeyLaws.{abs_parts}
-use Rattle.line_counts.specs.Fits.{segment_of, is_in, place_in, place_of, first_place, count_of}
+use Rattle.line_counts.specs.Fits.{segment_of, is_in, place_of, first_place, count_of}
 use Rattle.line_counts.specs.Plain.{plain_weight, lowest, highest}
 use Rattle.line_counts.specs.Blocks.{lines_of, plain_segment}
 use Rattle.line_counts.proofs.Places.{rises_little, middle_small, weight_low}

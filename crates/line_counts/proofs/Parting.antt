@@ -1,5 +1,5 @@
 -- How the bound of a shape is raised part by part: by a key of a block, or by the greatest key of lines of its own.
-use Rattle.std.proofs.Common.{◌≡◌, ℕ, ◌+◌, ◌*◌, ◌<◌, ◌≤◌, ◌⊎◌, inl, inr, max, ℤ, pos, negsuc, ◌+ℤ◌, ◌-ℤ◌, ◌≤ℤ◌, ◌<ℤ◌, unsigned_abs, List, get_or, length, Any, All, ⊎_elim, arith, refl, sym, ap, ◌∙◌, subst}
+use Rattle.std.proofs.Common.{◌≡◌, ℕ, ◌+◌, ◌<◌, ◌≤◌, ◌⊎◌, inl, inr, max, ℤ, pos, negsuc, ◌+ℤ◌, ◌≤ℤ◌, ◌<ℤ◌, unsigned_abs, List, get_or, length, ⊎_elim, arith, sym, ◌∙◌, subst}
 use Rattle.std.specs.Int.{int_min, int_max}
 use Rattle.std.proofs.lemmas.Int.{ints, clamps, by_lt_z}
 use Rattle.std.proofs.lemmas.Bool.{cases_lt}
@@ -12,12 +12,12 @@ use Rattle.line_counts.specs.declared.block.Block.{Block}
 use Rattle.line_counts.specs.declared.bounds.Offsets.{Offsets}
 use Rattle.line_counts.specs.declared.stretch.Stretch.{Stretch}
 use Rattle.line_counts.specs.Fits.{slope_of}
-use Rattle.line_counts.specs.Shapes.{IsInside, IsInGrid, IsSingle}
+use Rattle.line_counts.specs.Shapes.{IsInGrid, IsSingle}
 use Rattle.line_counts.specs.Plain.{plain_key}
 use Rattle.line_counts.specs.Table.{LivingPage}
 use Rattle.line_counts.specs.Stretches.{IsKeyAt, IsKeyIn, IsOfPage}
 use Rattle.line_counts.specs.KeyTables.{KeyTable, IsKeyInShape, IsShapeBound}
-use Rattle.line_counts.specs.Blocks.{IsKeyBound, IsBlock, AreBlocks, HasOffset, HasWhole, HasAll, AreCommon, HaveRows, IsKeyWhere, IsRaisedBound, lines_of}
+use Rattle.line_counts.specs.Blocks.{IsBlock, AreBlocks, HasOffset, HasWhole, HasAll, AreCommon, IsKeyWhere, IsRaisedBound, lines_of}
 use Rattle.line_counts.proofs.Places.{slope_in}
 use Rattle.line_counts.proofs.Growing.{IsWithin, plain_grows, line_plain}
 

@@ -1,5 +1,5 @@
 -- Why a bound of keys stays one as boxes go, and the plain key the same where they weigh nothing.
-use Rattle.std.proofs.Common.{◌≡◌, ℕ, ◌+◌, ◌<◌, ◌≤◌, ℤ, pos, negsuc, ◌+ℤ◌, ◌≤ℤ◌, cond, List, ◌++◌, get_or, ⊎_elim, Option, Some, None, IfSome, slice_get, arith, refl, sym, ◌∙◌, ap}
+use Rattle.std.proofs.Common.{◌≡◌, ℕ, ◌+◌, ◌≤◌, ℤ, negsuc, ◌≤ℤ◌, cond, List, ◌++◌, get_or, ⊎_elim, Option, Some, None, IfSome, slice_get, arith, refl, sym, ◌∙◌, ap}
 use Rattle.std.specs.List.{sum_by}
 use Rattle.std.specs.List.Sorted.{IsPermutation}
 use Rattle.std.proofs.lemmas.List.Sums.{sum_by-append, sum_by-le}

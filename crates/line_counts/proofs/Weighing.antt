@@ -5,7 +5,7 @@ use Rattle.std.proofs.lemmas.List.Sums.{sum_by-cons}
 use Rattle.std.proofs.lemmas.Bool.{cases_eq}
 use Rattle.std.proofs.lemmas.Bool.Decides.{nat_tests}
 use Rattle.layout_geom.specs.declared.rect.Rect.{Rect}
-use Rattle.line_quality.specs.Points.{IsSlope, weight, middle_of}
+use Rattle.line_quality.specs.Points.{IsSlope, middle_of}
 use Rattle.line_quality.specs.Scores.{weight_of}
 use Rattle.line_counts.specs.Fits.{segment_of, is_in, place_in, place_of, first_place, segment_weight, count_of, weight_behind}
 use Rattle.line_counts.proofs.Places.{weight_there, weight_by_place, weightless_before, weightless_behind, weight_between, weight_low}

@@ -1,13 +1,7 @@
 //! A block of offsets, with a bound of the keys of its lines for each slope.
-ghost use Rattle.std.specs.Prelude.{◌≡◌, ◌+◌, ◌-◌, ◌<◌, ◌≤◌, ℕ, length, slice_index};
-ghost use Rattle.line_counts.specs.Fits.{slope_of};
-ghost use Rattle.line_counts.specs.Blocks.{IsBlock, IsKeyBound, AreKeyBounds, lines_of};
+ghost use Rattle.std.specs.Prelude.{◌≡◌, ◌-◌, ◌<◌, ◌≤◌, ℕ, length, slice_index};
 
-use crate::blocks::MAX_BLOCK;
-use crate::fit::slope;
 use crate::limits::SLOPES;
-use crate::stretch::Stretch;
-use line_quality::MAX_DEPTH;
 
 /// Neighbouring offsets, and for each slope a key that no line with one of them exceeds, of any depth of the page.
 #[derive(Clone, Copy)]

@@ -1,12 +1,10 @@
 //! Bounds of shapes of the grid: of the part that a shape has in a block, by the keys of the block, or by all its lines.
 ghost use Rattle.std.specs.Prelude.{◌≡◌, ◌+◌, ◌<◌, ◌≤◌, ◌↔◌, pos};
-ghost use Rattle.std.specs.Prelude.{negsuc, ◌+ℤ◌, ◌≤ℤ◌, ◌<ℤ◌, IsTrue, IsFalse, ℤ};
+ghost use Rattle.std.specs.Prelude.{negsuc, ◌+ℤ◌, ◌≤ℤ◌, ◌<ℤ◌, IsTrue, ℤ};
 ghost use Rattle.std.specs.Int.{int_min, int_max};
 ghost use Rattle.line_counts.specs.Fits.{slope_of};
 ghost use Rattle.line_counts.specs.Shapes.{IsInGrid, IsSingle};
 ghost use Rattle.line_counts.specs.Plain.{plain_key};
-ghost use Rattle.line_counts.specs.KeyTables.{IsKeyInShape};
-ghost use Rattle.line_counts.specs.Stretches.{IsOfPage};
 ghost use Rattle.line_counts.specs.Blocks.{IsBlock, HasOffset, HasWhole, HasAll, IsKeyWhere, IsRaisedBound, AreCommon};
 
 use crate::block::Block;

@@ -34,7 +34,7 @@ impl Model for Keys {
 }
 
 impl Keys {
-    ghost use Rattle.std.specs.Prelude.{◌≡◌, ◌<◌, ◌≤◌, ◌++◌, IfOk, length, All};
+    ghost use Rattle.std.specs.Prelude.{◌≡◌, ◌<◌, ◌≤◌, ◌++◌, IfOk};
     ghost use Rattle.std.specs.List.Sorted.{IsPermutation};
     ghost use Rattle.line_counts.specs.Shapes.{IsInGrid};
     ghost use Rattle.line_counts.specs.KeyTables.{IsShapeBound};

@@ -1,10 +1,9 @@
 //! The keys of blocks as the members of a line go.
-ghost use Rattle.std.specs.Prelude.{◌≡◌, ◌+◌, ◌*◌, ◌<◌, ◌≤◌, ◌≤ℤ◌, ℕ, IsTrue, length, All};
+ghost use Rattle.std.specs.Prelude.{◌≡◌, ◌+◌, ◌*◌, ◌<◌, ◌≤◌, ◌≤ℤ◌, IsTrue, length, All};
 ghost use Rattle.line_counts.specs.Fits.{slope_of};
 ghost use Rattle.line_counts.specs.Blocks.{Misses, WasBlock, WereBlocks, AreBlocks, IsRenewed, IsHull, IsKeyBound, AreKeyBounds, lines_of};
 
 use crate::block::Block;
-use crate::blocks::MAX_BLOCK;
 use crate::counts::Counts;
 use crate::fit::{first_place, slope};
 use crate::limits::{REACH, SLOPES};

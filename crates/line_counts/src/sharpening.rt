@@ -3,12 +3,11 @@ ghost use Rattle.std.specs.Prelude.{◌≡◌, ◌+◌, ◌<◌, ◌≤◌, pos,
 ghost use Rattle.line_quality.specs.Points.{IsSlope};
 ghost use Rattle.line_counts.specs.Blocks.{IsBlock, IsRenewed};
 
-use crate::block::{Block, place_of_greatest};
+use crate::block::Block;
 use crate::counts::Counts;
 use crate::fit::slope;
 use crate::limits::SLOPES;
 use crate::stretch::Stretch;
-use layout_limits::MAX_SIDE;
 use line_quality::MAX_DEPTH;
 
 /// The place of the block that has the greatest key, or 0 where there is none.

@@ -1,6 +1,5 @@
-use Rattle.std.proofs.Common.{◌≡◌, ◌+◌, ◌<◌, ℕ, ℤ, List, length, get_or, to_z, of_z, w8, w16, arith, subst, ◌∙◌}
+use Rattle.std.proofs.Common.{◌≡◌, ◌<◌, ℕ, ℤ, List, length, to_z, of_z, w8, w16, arith, subst, ◌∙◌}
 use Rattle.std.proofs.Math.ListN.{length-set}
-use Rattle.std.proofs.lemmas.Int.{to_z-of_z}
 use Rattle.line_counts.specs.Fits.{slope_of}
 use Rattle.line_counts.specs.Blocks.{IsKeyBound, lines_of}
 use Rattle.line_counts.proofs.Places.{held_slope}

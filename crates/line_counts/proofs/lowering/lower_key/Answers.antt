@@ -1,4 +1,4 @@
-use Rattle.std.proofs.Common.{◌≡◌, pos, ℕ, ℤ, get_or, to_z, of_z, w8, w16, arith, subst, ◌∙◌}
+use Rattle.std.proofs.Common.{◌≡◌, pos, ℕ, ℤ, get_or, to_z, of_z, w8, w16, subst, ◌∙◌}
 use Rattle.line_counts.specs.declared.block.Block.{Block}
 use Rattle.line_counts.specs.declared.span.Span.{Span}
 use Rattle.line_counts.specs.Fits.{slope_of}

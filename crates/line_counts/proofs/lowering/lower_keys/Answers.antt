@@ -1,4 +1,4 @@
-use Rattle.std.proofs.Common.{◌≡◌, ◌<◌, ℕ, List, length, get_or, arith, ◌∙◌}
+use Rattle.std.proofs.Common.{◌<◌, ℕ, List, length, arith, ◌∙◌}
 use Rattle.std.proofs.Math.ListN.{length-set}
 use Rattle.line_counts.specs.Fits.{slope_of}
 use Rattle.line_counts.specs.Blocks.{IsKeyBound, lines_of}

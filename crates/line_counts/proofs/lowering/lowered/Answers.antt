@@ -1,4 +1,4 @@
-use Rattle.std.proofs.Common.{◌≡◌, ℕ, ℤ, List, get_or, to_z, of_z, w16, arith, ap, subst, sym, ◌∙◌}
+use Rattle.std.proofs.Common.{◌≡◌, ℕ, ℤ, List, to_z, of_z, w16, subst, sym, ◌∙◌}
 use Rattle.line_counts.specs.declared.block.Block.{Block}
 use Rattle.line_counts.specs.Blocks.{Misses, AreKeyBounds}
 use Rattle.line_counts.proofs.Keeping.{held_from, block_by, block_missed}

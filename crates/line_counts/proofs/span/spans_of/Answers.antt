@@ -1,4 +1,4 @@
-use Rattle.std.proofs.Common.{◌≡◌, ◌+◌, ◌<◌, ℕ, ℤ, List, length, get_or, to_z, of_z, w8, arith, subst, ◌∙◌}
+use Rattle.std.proofs.Common.{◌≡◌, ◌<◌, ℕ, List, length, arith, ◌∙◌}
 use Rattle.std.proofs.Math.ListN.{length-set}
 use Rattle.line_counts.specs.declared.span.Span.{Span}
 use Rattle.line_counts.specs.Fits.{slope_of}

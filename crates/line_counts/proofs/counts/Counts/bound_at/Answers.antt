@@ -1,7 +1,6 @@
-use Rattle.std.proofs.Common.{◌≡◌, ◌≤◌, ◌<ℤ◌, ◌+ℤ◌, ℤ, pos, to_z, of_z, w8, arith, sym, ◌∙◌}
+use Rattle.std.proofs.Common.{◌≡◌, ◌<ℤ◌, ℤ, arith, ◌∙◌}
 use Rattle.std.proofs.lemmas.Int.{ints}
 use Rattle.line_counts.specs.Fits.{slope_of}
-use Rattle.line_counts.specs.declared.stretch.Stretch.{Stretch}
 use Rattle.line_counts.proofs.Places.{held_slope}
 use Rattle.line_counts.proofs.Parting.{key_passed, key_raises, part_of_page, part_raises}
 use Rattle.line_counts.proofs.counts.Counts.bound_at.Goals as goal

@@ -1,4 +1,4 @@
-use Rattle.std.proofs.Common.{◌≡◌, ◌+ℤ◌, ℤ, pos, arith, ◌∙◌}
+use Rattle.std.proofs.Common.{◌≡◌, arith}
 use Rattle.std.proofs.lemmas.Int.{ints, clamps}
 use Rattle.line_counts.specs.Fits.{slope_of}
 use Rattle.line_counts.proofs.Parting.{block_passed, block_raises, none_common, slope_more, all_slopes}

@@ -1,4 +1,4 @@
-use Rattle.std.proofs.Common.{◌≡◌, ◌+◌, ◌*◌, ◌<◌, ◌≤◌, ◌≤ℤ◌, ℕ, ℤ, negsuc, List, length, get_or, to_z, of_z, w8, w16, ◌&&◌, ltb, slice_get, arith, ap, ◌∙◌, sym}
+use Rattle.std.proofs.Common.{◌≡◌, ◌+◌, ◌*◌, ◌<◌, ◌≤◌, ◌≤ℤ◌, ℕ, ℤ, negsuc, List, length, get_or, to_z, of_z, w8, w16, ◌&&◌, ltb, slice_get, arith, ap, ◌∙◌}
 use Rattle.std.proofs.lemmas.Int.{to_z-of_z}
 use Rattle.line_quality.specs.Points.{IsSlope}
 use Rattle.line_counts.specs.Fits.{first_place, is_in, place_in, count_of}

@@ -1,14 +1,13 @@
-use Rattle.std.proofs.Common.{◌≡◌, ◌<◌, ◌≤◌, ◌+ℤ◌, pos, ℕ, ℤ, List, length, arith, ap, sym, subst, ◌∙◌}
+use Rattle.std.proofs.Common.{List, arith, sym, subst, ◌∙◌}
 use Rattle.std.proofs.lemmas.Int.{ints}
 use Rattle.std.proofs.lemmas.Bool.{false≢true}
 use Rattle.box_search.specs.declared.space.Shape.{Shape}
 use Rattle.line_counts.specs.declared.block.Block.{Block}
-use Rattle.line_counts.specs.declared.stretch.Stretch.{Stretch}
 use Rattle.line_counts.specs.Shapes.{IsInGrid, IsSingle}
 use Rattle.line_counts.specs.KeyTables.{KeyTable, IsShapeBound}
-use Rattle.line_counts.specs.Blocks.{AreBlocks, IsRaisedBound}
+use Rattle.line_counts.specs.Blocks.{AreBlocks}
 use Rattle.line_counts.proofs.Ranges.{AreKept, wider, kept_in}
-use Rattle.line_counts.proofs.Parting.{IsKeyOfFirst, line_of_page, single_bound, block_more, all_over, same_table}
+use Rattle.line_counts.proofs.Parting.{line_of_page, single_bound, block_more, all_over, same_table}
 use Rattle.line_counts.proofs.keys.Keys.bound.Goals as goal
 
 pub greatest-requires : goal.greatest-requires

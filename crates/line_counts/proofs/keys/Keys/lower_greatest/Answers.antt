@@ -1,4 +1,4 @@
-use Rattle.std.proofs.Common.{◌+◌, ◌<◌, ℕ, List, length, arith}
+use Rattle.std.proofs.Common.{◌+◌, ◌<◌, List, length, arith}
 use Rattle.std.proofs.lemmas.List.Elements.{All-set}
 use Rattle.line_counts.specs.declared.block.Block.{Block}
 use Rattle.line_counts.specs.Blocks.{IsBlock}
