@@ -1,18 +1,17 @@
 -- Why no line scores more than what the counts of some part weigh for it.
-use Rattle.std.proofs.Common.{◌≡◌, ℕ, zero, suc, ◌+◌, ◌*◌, ◌<◌, ◌≤◌, ℤ, pos, negsuc, ◌+ℤ◌, ◌≤ℤ◌, cond, eqb, List, [], length, get_or, unsigned_abs, arith, refl, sym, ◌∙◌, ap}
+use Rattle.std.proofs.Common.{◌≡◌, ℕ, zero, suc, ◌+◌, ◌*◌, ◌<◌, ◌≤◌, ℤ, pos, negsuc, ◌+ℤ◌, ◌≤ℤ◌, List, [], length, get_or, arith, refl, sym, ap}
 use Rattle.std.proofs.lemmas.Int.{ints}
-use Rattle.layout_geom.specs.declared.rect.Rect.{Rect}
 use Rattle.line_quality.specs.KeyLaws.{abs_parts}
 use Rattle.line_quality.specs.Points.{IsSlope}
 use Rattle.line_quality.specs.Scores.{IsScore}
 use Rattle.line_counts.specs.Fits.{column_of_segment, count_of, first_place, segment_weight, weight_behind}
 use Rattle.line_counts.specs.Stretches.{IsOfPage}
-use Rattle.line_counts.specs.Tops.{sum_to, of_column, weighed, count_behind, HasColumn, AreParts, HaveColumns}
+use Rattle.line_counts.specs.Tops.{sum_to, of_column, weighed, count_behind, HasColumn, HaveColumns}
 use Rattle.line_counts.specs.declared.parts.Parts.{Parts}
 use Rattle.line_counts.specs.declared.stretch.Stretch.{Stretch}
 use Rattle.line_counts.specs.Table.{LivingPage}
 use Rattle.line_counts.proofs.Segments.{column_weight, column_none, column_more, column_all}
-use Rattle.line_counts.proofs.Summing.{to_next, of_none, of_next, of_times, of_zero, of_same, times_low, weighs_both}
+use Rattle.line_counts.proofs.Summing.{to_next, of_next, of_times, of_zero, of_same, times_low}
 use Rattle.line_counts.proofs.Weighing.{weight_before, weight_none, weight_all, weight_next}
 
 next : (n : ℕ) → suc n ≡ n + 1
@@ -112,25 +111,15 @@ score_low page stretch more depth score k counts in_slopes low less deep has sco
           )),
     )
 
-more_depth : (more depth offsets deepest : ℕ) → more < offsets → depth ≤ deepest → offsets ≤ 64 → deepest ≤ 63 → (more < 128) × (more + depth < 128)
-more_depth more depth offsets deepest less deep few shallow = (omega (arith, less, few), omega (arith, less, deep, few, shallow))
-
--- and no more than two bells
-pub score_two : (page : LivingPage) (stretch : Stretch) (parts : Parts) (most : ℕ) → IsOfPage page.height stretch → stretch.offsets ≤ 64 → AreParts parts
-    → HaveColumns page stretch parts.number parts.counts
-    → ((part place : ℕ) → part < parts.number → place < 128 → get_or (get_or parts.bells part []) place 0 ≤ most)
-    → (more depth score k : ℕ) → more < stretch.offsets → depth ≤ stretch.deepest → IsScore stretch.slope (stretch.from +ℤ pos more) depth page.boxes page.gutters page.alive score k → score ≤ 2 * most
-score_two page stretch parts most of_page few are has below more depth score k less deep scored =
+-- and no more than the counts of some part weigh at most
+pub score_most : (page : LivingPage) (stretch : Stretch) (parts : Parts) (most : ℕ) → IsOfPage page.height stretch → stretch.offsets ≤ 64 → HaveColumns page stretch parts.number parts.counts
+    → ((part more depth : ℕ) → part < parts.number → more < 64 → depth ≤ 63 → weighed (get_or parts.counts part []) more depth ≤ most)
+    → (more depth score k : ℕ) → more < stretch.offsets → depth ≤ stretch.deepest → IsScore stretch.slope (stretch.from +ℤ pos more) depth page.boxes page.gutters page.alive score k → score ≤ most
+score_most page stretch parts most of_page few has below more depth score k less deep scored =
     let held = has more k less in
     let counts : List ℕ = get_or parts.counts held.0 [] in
-    let bells = are.bells held.0 held.1 in
-    let inside = more_depth more depth stretch.offsets stretch.deepest less deep few of_page.shallow in
     omega (
       arith,
       score_low page stretch more depth score k counts of_page.slope_in of_page.low less deep held.2 scored,
-      weighs_both counts more depth,
-      bells.value more inside.0,
-      bells.value (more + depth) inside.1,
-      below held.0 more held.1 inside.0,
-      below held.0 (more + depth) held.1 inside.1,
+      below held.0 more depth held.1 (omega (arith, less, few)) (omega (arith, deep, of_page.shallow)),
     )

@@ -210,6 +210,13 @@ weighs_both counts more depth =
     let turned : sum_to flat (depth + 9) ≡ sum_to flat (9 + depth) = ap (sum_to flat) (behind_nine depth) in
     omega (arith, whole, line, rest, none, first, second, deep_is, turned)
 
+-- so they weigh no more for a line than for both
+pub weighs_less : (counts : List ℕ) (more depth : ℕ) → weighed counts more depth ≤ weighed counts more 0 + weighed counts (more + depth) 0
+weighs_less counts more depth = no_more (weighed counts more depth) _ _ (weighs_both counts more depth)
+  where
+    no_more : (a b c : ℕ) → a + b ≡ c → a ≤ c
+    no_more a b c is = omega (arith, is)
+
 -- and that is no more than what they weigh for the descenders
 pub common_sum_low : (counts : List ℕ) (place depth count : ℕ) → count ≤ 9
     → sum_to (λ j. common_weight depth j * get_or counts (place + j) 0) count ≤ weighed counts place 0
@@ -230,4 +237,28 @@ common_sum_all counts place depth count few far =
       ap (sum_to both) all,
       to_parts both count left,
       to_zero (λ j. both (count + j)) left (λ j _. none_times (common_weight depth (count + j)) (get_or counts (place + (count + j)) 0) (common_none depth (count + j) (omega (arith, far)))),
+    )
+
+-- counts weigh no more than if each box stood on the line
+weight_low : (depth k : ℕ) → weight_behind depth k ≤ 25
+weight_low depth k = omega arith
+
+twenty_five : (x w : ℕ) → w ≤ 25 → x * w ≤ 25 * x
+twenty_five x w low = omega (arith, times_low w 25 x low)
+
+to_times : (f : ℕ → ℕ) (w n : ℕ) → sum_to (λ k. w * f k) n ≡ w * sum_to f n
+to_times f w zero = omega arith
+to_times f w (suc n) =
+    omega (arith, to_suc (λ k. w * f k) n, ap (λ (s : ℕ). w * s) (to_suc f n), to_times f w n)
+
+pub weighs_all : (counts : List ℕ) (more depth all : ℕ) → more + (2 * 4 + depth + 1) ≤ all → weighed counts more depth ≤ 25 * sum_to (λ place. get_or counts place 0) all
+weighs_all counts more depth all inside =
+    let x : ℕ → ℕ = λ place. get_or counts place 0 in
+    let count : ℕ = 2 * 4 + depth + 1 in
+    omega (
+      arith,
+      to_low (λ k. x (more + k) * weight_behind depth k) (λ k. 25 * x (more + k)) count (λ k _. twenty_five (x (more + k)) (weight_behind depth k) (weight_low depth k)),
+      to_times (λ k. x (more + k)) 25 count,
+      to_parts x more count,
+      to_more x (more + count) all inside,
     )

@@ -1,5 +1,5 @@
 -- The counts of the parts into which gutters that all lines of a stretch cross divide a page, and what no line scores more than.
-use Rattle.std.specs.Prelude.{◌≡◌, ℕ, ◌+◌, ◌*◌, ◌<◌, ◌≤◌, ◌==◌, max, cond, ℤ, pos, ◌+ℤ◌, List, [], map, length, slice_index, slice_index_or}
+use Rattle.std.specs.Prelude.{◌≡◌, ℕ, ◌+◌, ◌*◌, ◌<◌, ◌≤◌, ◌==◌, max, cond, pos, ◌+ℤ◌, List, [], map, length, slice_index, slice_index_or}
 use Rattle.std.specs.List.{sum_by, range_with_len}
 use Rattle.layout_geom.specs.declared.rect.Rect.{Rect}
 use Rattle.line_quality.specs.Points.{weight_at}

@@ -1,19 +1,19 @@
 //! The greatest key of a stretch of the grid.
-ghost use Rattle.std.specs.Prelude.{◌≡◌, ◌+◌, ◌/◌, ◌^◌, ◌<◌, ◌≤◌, pos, ◌+ℤ◌, ◌≤ℤ◌, ℕ, [], max, length, slice_index, slice_index_or, IsFalse};
+ghost use Rattle.std.specs.Prelude.{◌≡◌, ◌+◌, ◌*◌, ◌/◌, ◌^◌, ◌<◌, ◌≤◌, pos, ◌+ℤ◌, ◌≤ℤ◌, ℕ, [], max, length, slice_index, slice_index_or, IsFalse};
 ghost use Rattle.box_search.specs.Search.{IsGreatestKey};
 ghost use Rattle.line_quality.specs.Points.{IsSlope, IsOffset, IsDepth};
 ghost use Rattle.line_quality.specs.Keys;
 ghost use Rattle.line_quality.specs.Scores.{IsScore};
 ghost use Rattle.line_counts.specs.Stretches.{IsKeyAt, IsKeyOf, IsKeyIn, IsOfPage, IsGreaterKey, IsSharper};
-ghost use Rattle.line_counts.specs.Tops.{AreParts, AreTops};
+ghost use Rattle.line_counts.specs.Tops.{ArePartCounts, AreBells, AreParts, AreTops, sum_to, weighed};
 
 use crate::counts::Counts;
+use crate::limits::{BATCH, MAX_PART_COUNT, MAX_PARTS, MAX_PLACES, MAX_TABLE_BOXES, MAX_TOPS};
+use crate::parts::Parts;
 use crate::stretch::Stretch;
 use crate::tops::tops;
-use crate::limits::{BATCH, MAX_PARTS, MAX_TABLE_BOXES, MAX_TOPS};
-use crate::parts::Parts;
 use layout_limits::MAX_SIDE;
-use line_quality::{LEAST_OFFSET, MAX_DEPTH, MAX_SCORE, OFFSET_MARGIN, line_key};
+use line_quality::{LEAST_OFFSET, MAX_DEPTH, MAX_SCORE, MAX_WEIGHT, OFFSET_MARGIN, line_key};
 
 /// The offset of a stretch that comes so many behind the first.
 fn offset_of(stretch: &Stretch, more: u16) -> i16
@@ -44,15 +44,40 @@ fn greatest_of_first(numbers: &[u32], count: usize) -> u32
     most
 }
 
-/// The greatest of the bells of parts.
-fn greatest_bell(parts: &Parts) -> u32
+/// The sum of counts.
+fn total(counts: &[u32]) -> u32
+    requires { ArePartCounts counts.now }
+    ensures value { result ≡ sum_to (λ place. slice_index counts.now place) MAX_PLACES }
+    ensures small { result ≤ MAX_PLACES * MAX_PART_COUNT }
+{
+    let mut total = 0;
+    for place in 0..MAX_PLACES {
+        total += counts[place];
+    }
+    total
+}
+
+/// What the counts of a part weigh at most for a line: no more than two bells, and than if each box stood on the line.
+fn part_most(counts: &[u32], bells: &[u32]) -> u32
+    requires counts { ArePartCounts counts.now }
+    requires bells { AreBells counts.now bells.now }
+    ensures over { (more depth : ℕ) → more < BATCH → depth ≤ MAX_DEPTH → weighed counts.now more depth ≤ result }
+    ensures small { result ≤ MAX_WEIGHT * MAX_PLACES * MAX_PART_COUNT }
+{
+    let bell = greatest_of_first(bells, MAX_TOPS);
+    let all = MAX_WEIGHT * total(counts);
+    bell.saturating_mul(2).min(all)
+}
+
+/// What the counts of some part weigh at most for a line.
+fn most(parts: &Parts) -> u32
     requires { AreParts parts.now }
-    ensures { (part place : ℕ) → part < parts.now.number → place < MAX_TOPS
-        → slice_index (slice_index_or parts.now.bells part []) place ≤ result }
+    ensures { (part more depth : ℕ) → part < parts.now.number → more < BATCH → depth ≤ MAX_DEPTH
+        → weighed (slice_index_or parts.now.counts part []) more depth ≤ result }
 {
     let mut most = 0;
     for part in 0..parts.number {
-        most = greatest_of_first(&parts.bells[part], MAX_TOPS).max(most);
+        most = part_most(&parts.counts[part], &parts.bells[part]).max(most);
     }
     most
 }
@@ -80,8 +105,7 @@ fn may_beat(top: u32, slope: i8, offset: i16, depth: u8, least: u32, best: u64) 
     ensures { IsFalse result → (score : ℕ) → score ≤ top → score ≤ MAX_SCORE → least ≤ score
         → (0 < best) × (Keys.line_key score slope offset depth ≤ best) }
 {
-    top as u64 >= needed(least, best)
-        && line_key(top.min(MAX_SCORE), slope, offset, depth) > best
+    top as u64 >= needed(least, best) && line_key(top.min(MAX_SCORE), slope, offset, depth) > best
 }
 
 /// The lines of one depth of a stretch.
@@ -143,7 +167,8 @@ impl Counts {
         if !may_beat(top, row.slope, offset, row.deepest, least, before) {
             return before;
         }
-        self.key_at(row.slope, offset, row.deepest, least).max(before)
+        self.key_at(row.slope, offset, row.deepest, least)
+            .max(before)
     }
 
     /// The best key so far, or a greater one of the lines of a row. The likeliest one comes first, since the others are then
@@ -177,7 +202,7 @@ impl Counts {
         ensures { IsGreaterKey (IsKeyIn self.now least stretch.now) before result }
     {
         let parts = self.parts(stretch);
-        if 2 * (greatest_bell(&parts) as u64) < needed(least, before) {
+        if (most(&parts) as u64) < needed(least, before) {
             return before;
         }
         let mut best = before;
@@ -189,7 +214,7 @@ impl Counts {
         best
     }
 
-    /// A bound of the lines of a stretch that score at least so much, by the greatest bell alone.
+    /// A bound of the lines of a stretch that score at least so much, by what the counts of parts weigh at most.
     fn rough(&self, stretch: &Stretch, least: u32) -> u64
         requires of_page { IsOfPage self.now.height stretch.now }
         requires some { 0 < stretch.now.offsets }
@@ -197,12 +222,16 @@ impl Counts {
         ensures { (key : ℕ) → IsKeyIn self.now least stretch.now key → key ≤ result }
     {
         let parts = self.parts(stretch);
-        let score = 2 * greatest_bell(&parts) as u64;
-        if score < least as u64 {
+        let score = most(&parts);
+        if score < least {
             return 0;
         }
-        let score = score.min(MAX_SCORE as u64) as u32;
-        line_key(score, stretch.slope, stretch.from, stretch.shallowest)
+        line_key(
+            score.min(MAX_SCORE),
+            stretch.slope,
+            stretch.from,
+            stretch.shallowest,
+        )
     }
 
     /// A bound of the lines of a stretch that score at least so much: a rough one where that is less than the one before, and

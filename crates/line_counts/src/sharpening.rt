@@ -1,6 +1,5 @@
 //! Keys of blocks that are made less, until they are exact.
-ghost use Rattle.std.specs.Prelude.{◌≡◌, ◌+◌, ◌<◌, ◌≤◌, pos, ◌+ℤ◌, ◌≤ℤ◌, length};
-ghost use Rattle.line_quality.specs.Points.{IsSlope};
+ghost use Rattle.std.specs.Prelude.{◌<◌, ◌≤◌, length};
 ghost use Rattle.line_counts.specs.Blocks.{IsBlock, IsRenewed};
 
 use crate::block::Block;

@@ -1,4 +1,4 @@
-use Rattle.std.proofs.Common.{◌≡◌, ◌<◌, ℕ, List, length, get_or, set, get_or-set_same, get_or-set_other, arith, ap, ◌∙◌, sym, ⊎_elim}
+use Rattle.std.proofs.Common.{◌<◌, ℕ, List, length, get_or, set, get_or-set_same, get_or-set_other, arith, ap, ◌∙◌, sym, ⊎_elim}
 use Rattle.std.proofs.Math.ListN.{length-set}
 use Rattle.std.proofs.lemmas.Bool.{cases_eq}
 use Rattle.line_counts.specs.Tops.{weighed}

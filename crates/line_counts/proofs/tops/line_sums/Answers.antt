@@ -1,6 +1,6 @@
-use Rattle.std.proofs.Common.{◌≡◌, ◌+◌, ◌-◌, ◌*◌, ◌<◌, ◌≤◌, min, ℕ, List, get_or, arith, ap, ◌∙◌}
-use Rattle.line_counts.specs.Tops.{sum_to, common_weight, weighed}
-use Rattle.line_counts.proofs.Summing.{to_none, to_next, weighs_both, common_sum_low, common_sum_all}
+use Rattle.std.proofs.Common.{◌≡◌, ◌+◌, ◌-◌, ◌*◌, ◌≤◌, min, ℕ, List, get_or, arith, ap, ◌∙◌}
+use Rattle.line_counts.specs.Tops.{common_weight}
+use Rattle.line_counts.proofs.Summing.{to_next, weighs_both, common_sum_low, common_sum_all}
 use Rattle.line_counts.proofs.tops.line_sums.Goals as goal
 
 turned : (depth behind more : ℕ) → depth + behind + more ≡ more + depth + behind

@@ -1,4 +1,4 @@
-use Rattle.std.proofs.Common.{◌≡◌, ◌+◌, ◌<◌, ◌≤◌, ℕ, ◌+ℤ◌, pos, List, [], get_or, arith, ap, ⊎_elim}
+use Rattle.std.proofs.Common.{ℕ, List, [], get_or, arith, ap, ⊎_elim}
 use Rattle.std.proofs.lemmas.Bool.{cases_eq}
 use Rattle.line_counts.specs.Tops.{weighed}
 use Rattle.line_counts.proofs.Heaviest.{score_low}

@@ -1,9 +1,9 @@
-use Rattle.std.proofs.Common.{◌≡◌, ◌+◌, ◌-◌, ◌*◌, ◌<◌, ◌≤◌, ℕ, List, arith, sym, subst}
+use Rattle.std.proofs.Common.{◌≡◌, ◌+◌, ◌-◌, ◌≤◌, ℕ, List, arith, sym, subst}
 use Rattle.line_counts.specs.declared.stretch.Stretch.{Stretch}
 use Rattle.line_counts.specs.Stretches.{IsKeyIn, IsGreaterKey}
 use Rattle.line_counts.specs.Table.{LivingPage}
 use Rattle.line_counts.specs.Tops.{AreTops}
-use Rattle.line_counts.proofs.Heaviest.{score_two}
+use Rattle.line_counts.proofs.Heaviest.{score_most}
 use Rattle.line_counts.proofs.Passing.{stretch_passed}
 use Rattle.line_counts.proofs.Joining.{IsKeyFrom, no_row, row_more, row_all, row_at}
 use Rattle.line_counts.proofs.counts.Counts.greatest_in.Goals as goal
@@ -21,10 +21,10 @@ greatest_of-best-requires-clause-tops c =
     subst (λ (row : Stretch). AreTops page row row.deepest c.tops-tops.result) (sym c.row_of.ensures)
     (tops_of_row page stretch depth c.tops-tops.result (c.tops-tops.ensures.over page stretch c.requires.of_page c.requires.few deep c.parts-parts.ensures.columns))
 
-pub returns-then-greatest_bell-needed : goal.returns-then-greatest_bell-needed
-returns-then-greatest_bell-needed c =
-    stretch_passed c.args.self.now c.args.stretch.now c.args.least c.args.before (2 * c.greatest_bell.result) c.needed.result c.needed.ensures c.if-greatest_bell-needed.true
-    (score_two c.args.self.now c.args.stretch.now c.parts-parts.result c.greatest_bell.result c.requires.of_page c.requires.few c.parts-parts.ensures.parts c.parts-parts.ensures.columns c.greatest_bell.ensures)
+pub returns-then-most-needed : goal.returns-then-most-needed
+returns-then-most-needed c =
+    stretch_passed c.args.self.now c.args.stretch.now c.args.least c.args.before c.most.result c.needed.result c.needed.ensures c.if-most-needed.true
+    (score_most c.args.self.now c.args.stretch.now c.parts-parts.result c.most.result c.requires.of_page c.requires.few c.parts-parts.ensures.columns c.most.ensures)
 
 pub loop-less-init : goal.loop-less-init
 loop-less-init c = no_row c.args.self.now c.args.least c.args.stretch.now (c.args.stretch.now.deepest + 1 - 0) c.args.before (omega arith)

@@ -1,4 +1,4 @@
-use Rattle.std.proofs.Common.{◌≡◌, ◌+◌, ◌<◌, ◌≤◌, ℕ, ℤ, ◌+ℤ◌, ◌≤ℤ◌, ◌<ℤ◌, pos, negsuc, to_z, of_z, w8, w16, arith, subst}
+use Rattle.std.proofs.Common.{◌≡◌, ◌+◌, ◌<◌, ◌≤◌, ℕ, ℤ, ◌+ℤ◌, ◌≤ℤ◌, ◌<ℤ◌, pos, negsuc, to_z, of_z, w16, arith, subst}
 use Rattle.std.proofs.lemmas.Int.{ints}
 use Rattle.line_counts.specs.Stretches.{IsKeyOf, IsKeyIn}
 use Rattle.line_counts.proofs.Places.{held_slope}

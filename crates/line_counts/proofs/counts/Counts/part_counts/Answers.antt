@@ -1,4 +1,4 @@
-use Rattle.std.proofs.Common.{◌≡◌, ◌+◌, ◌*◌, ◌<◌, ◌≤◌, ◌+ℤ◌, pos, ℕ, ℤ, List, length, get_or, get_or-set_same, ⊎_elim, [], arith, ap, ◌∙◌, refl}
+use Rattle.std.proofs.Common.{◌≡◌, ◌+◌, ◌*◌, ◌<◌, ◌≤◌, ◌+ℤ◌, pos, ℕ, List, length, get_or, get_or-set_same, ⊎_elim, [], arith, ap, ◌∙◌, refl}
 use Rattle.line_counts.specs.Fits.{column_of_segment}
 use Rattle.line_counts.specs.Tops.{of_column, count_behind}
 use Rattle.line_counts.specs.declared.stretch.Stretch.{Stretch}

@@ -1,4 +1,4 @@
-use Rattle.std.proofs.Common.{ℕ, List, ◌≡◌, sym, subst}
+use Rattle.std.proofs.Common.{ℕ, List, sym, subst}
 use Rattle.line_counts.specs.Tops.{HaveColumns}
 use Rattle.line_counts.proofs.counts.Counts.parts.Goals as goal
 
