@@ -1,5 +1,5 @@
 -- The greatest key of several lines.
-use Rattle.std.proofs.Common.{◌≡◌, ℕ, ◌+◌, ◌<◌, ◌≤◌, ◌⊎◌, inl, inr, ⊎_elim, max, ℤ, pos, ◌+ℤ◌, ◌<ℤ◌, arith, refl, sym, subst}
+use Rattle.std.proofs.Common.{◌≡◌, ℕ, ◌+◌, ◌<◌, ◌≤◌, ◌⊎◌, inl, inr, ⊎_elim, max, ℤ, pos, ◌+ℤ◌, ◌≤ℤ◌, ◌<ℤ◌, arith, refl, sym, subst}
 use Rattle.std.proofs.lemmas.Int.{ints, by_lt_z}
 use Rattle.std.proofs.lemmas.Bool.{cases_lt}
 use Rattle.box_search.specs.Search.{IsGreatestKey}
@@ -94,40 +94,6 @@ module _ (page : LivingPage) (least : ℕ) (slope offset : ℤ) (depth score in_
   no_key_of_line little = no_key (IsKeyAt page least slope offset depth)
       (λ k at. omega (arith, little, at.enough, (same_score slope offset depth page.boxes page.gutters page.alive at.score score at.in_column in_column at.scored scored).0))
 
--- some line of the offset has the key, of a depth in a range that ends before one
-pub record IsKeyAmong (page : LivingPage) (least : ℕ) (slope offset : ℤ) (from to key : ℕ) : Type 0 where
-  pub depth : ℕ
-  pub from_depth : from ≤ depth
-  pub to_depth : depth < to
-  pub at : IsKeyAt page least slope offset depth key
-
-module _ (page : LivingPage) (least : ℕ) (slope offset : ℤ) (from : ℕ) where
-  pub no_depth : (before : ℕ) → IsGreaterKey (IsKeyAmong page least slope offset from from) before before
-  no_depth before = none_since (IsKeyAmong page least slope offset from from) before (λ k among. absurd (omega (arith, among.from_depth, among.to_depth)))
-
-  among_cases : (to key : ℕ) → IsKeyAmong page least slope offset from (to + 1) key → IsKeyAt page least slope offset to key ⊎ IsKeyAmong page least slope offset from to key
-  among_cases to key among = ⊎_elim
-      (λ less. inr (record { depth = among.depth; from_depth = among.from_depth; to_depth = less; at = among.at }))
-      (λ more. let same : among.depth ≡ to = omega (arith, among.to_depth, more) in inl (subst (λ (d : ℕ). IsKeyAt page least slope offset d key) same among.at))
-      (cases_lt among.depth to)
-
-  -- one more depth
-  pub depth_more : (to before best more : ℕ) → from ≤ to → IsGreaterKey (IsKeyAmong page least slope offset from to) before best
-      → IsGreaterKey (IsKeyAt page least slope offset to) best more → IsGreaterKey (IsKeyAmong page least slope offset from (to + 1)) before more
-  depth_more to before best more low =
-      both_since (IsKeyAmong page least slope offset from to) (IsKeyAt page least slope offset to) (IsKeyAmong page least slope offset from (to + 1)) before best more
-      (λ k among. record { depth = among.depth; from_depth = among.from_depth; to_depth = omega (arith, among.to_depth); at = among.at })
-      (λ k at. record { depth = to; from_depth = low; to_depth = omega arith; at = at })
-      (among_cases to)
-
-  -- all depths
-  pub depth_all : (to deepest before key : ℕ) → to ≡ deepest + 1 → IsGreaterKey (IsKeyAmong page least slope offset from to) before key → IsGreaterKey (IsKeyOf page least slope offset from deepest) before key
-  depth_all to deepest before key last all =
-      renamed_since (IsKeyAmong page least slope offset from to) (IsKeyOf page least slope offset from deepest) before key
-      (λ k among. record { depth = among.depth; from_depth = among.from_depth; to_depth = omega (arith, last, among.to_depth); at = among.at })
-      (λ k of. record { depth = of.depth; from_depth = of.from_depth; to_depth = omega (arith, last, of.to_depth); at = of.at })
-      all
-
 -- the first offsets of a stretch
 abbrev pub first_of : Stretch → ℕ → Stretch
 first_of stretch count = record stretch { offsets = count }
@@ -178,3 +144,85 @@ module _ (page : LivingPage) (least : ℕ) (stretch : Stretch) where
   -- all offsets
   pub offset_all : (n before key : ℕ) → n ≡ stretch.offsets → IsGreaterKey (IsKeyIn page least (first_of stretch n)) before key → IsGreaterKey (IsKeyIn page least stretch) before key
   offset_all n before key last all = subst (λ (k : ℕ). IsGreaterKey (IsKeyIn page least (first_of stretch k)) before key) last all
+
+-- a line that comes first is one of them
+pub begun_with : (P Q : ℕ → Type 0) (before first word : ℕ) → ((k : ℕ) → P k → Q k) → IsGreaterKey P before first → IsGreaterKey Q first word → IsGreaterKey Q before word
+begun_with P Q before first word among = both_since P Q Q before first word among (λ k some. some) (λ k some. inl some)
+
+-- the lines of one depth of a stretch
+abbrev pub row_at : Stretch → ℕ → Stretch
+row_at stretch depth = record stretch { shallowest = depth; deepest = depth }
+
+-- some line of the stretch has the key, of a depth from one on
+pub record IsKeyFrom (page : LivingPage) (least : ℕ) (stretch : Stretch) (from key : ℕ) : Type 0 where
+  pub offset : ℤ
+  pub from_offset : stretch.from ≤ℤ offset
+  pub to_offset : offset <ℤ (stretch.from +ℤ pos stretch.offsets)
+  pub of : IsKeyOf page least stretch.slope offset from stretch.deepest key
+
+module _ (page : LivingPage) (least : ℕ) (stretch : Stretch) where
+  pub no_row : (from before : ℕ) → from ≡ stretch.deepest + 1 → IsGreaterKey (IsKeyFrom page least stretch from) before before
+  no_row from before is = none_since (IsKeyFrom page least stretch from) before (λ k some. absurd (omega (arith, is, some.of.from_depth, some.of.to_depth)))
+
+  row_cases : (from key : ℕ) → IsKeyFrom page least stretch from key → IsKeyIn page least (row_at stretch from) key ⊎ IsKeyFrom page least stretch (from + 1) key
+  row_cases from key some = ⊎_elim
+      (λ less. inl (record {
+        offset = some.offset;
+        from_offset = some.from_offset;
+        to_offset = some.to_offset;
+        of = record { depth = some.of.depth; from_depth = some.of.from_depth; to_depth = omega (arith, less); at = some.of.at };
+      }))
+      (λ more. inr (record {
+        offset = some.offset;
+        from_offset = some.from_offset;
+        to_offset = some.to_offset;
+        of = record { depth = some.of.depth; from_depth = more; to_depth = some.of.to_depth; at = some.of.at };
+      }))
+      (cases_lt some.of.depth (from + 1))
+
+  -- one depth more, before the others
+  pub row_more : (from before best more : ℕ) → from ≤ stretch.deepest → IsGreaterKey (IsKeyFrom page least stretch (from + 1)) before best
+      → IsGreaterKey (IsKeyIn page least (row_at stretch from)) best more → IsGreaterKey (IsKeyFrom page least stretch from) before more
+  row_more from before best more low =
+      both_since (IsKeyFrom page least stretch (from + 1)) (IsKeyIn page least (row_at stretch from)) (IsKeyFrom page least stretch from) before best more
+      (λ k some. record {
+        offset = some.offset;
+        from_offset = some.from_offset;
+        to_offset = some.to_offset;
+        of = record { depth = some.of.depth; from_depth = omega (arith, some.of.from_depth); to_depth = some.of.to_depth; at = some.of.at };
+      })
+      (λ k is. record {
+        offset = is.offset;
+        from_offset = is.from_offset;
+        to_offset = is.to_offset;
+        of = record { depth = is.of.depth; from_depth = is.of.from_depth; to_depth = omega (arith, low, is.of.to_depth); at = is.of.at };
+      })
+      (row_cases from)
+
+  -- all depths
+  pub row_all : (from before key : ℕ) → from ≡ stretch.shallowest → IsGreaterKey (IsKeyFrom page least stretch from) before key → IsGreaterKey (IsKeyIn page least stretch) before key
+  row_all from before key first all =
+      renamed_since (IsKeyFrom page least stretch from) (IsKeyIn page least stretch) before key
+      (λ k some. record {
+        offset = some.offset;
+        from_offset = some.from_offset;
+        to_offset = some.to_offset;
+        of = record { depth = some.of.depth; from_depth = omega (arith, first, some.of.from_depth); to_depth = some.of.to_depth; at = some.of.at };
+      })
+      (λ k is. record {
+        offset = is.offset;
+        from_offset = is.from_offset;
+        to_offset = is.to_offset;
+        of = record { depth = is.of.depth; from_depth = omega (arith, first, is.of.from_depth); to_depth = is.of.to_depth; at = is.of.at };
+      })
+      all
+
+-- a line of the one depth of an offset
+pub of_one : (page : LivingPage) (least : ℕ) (slope offset : ℤ) (shallowest deepest before word : ℕ) → shallowest ≡ deepest
+    → IsGreaterKey (IsKeyAt page least slope offset deepest) before word → IsGreaterKey (IsKeyOf page least slope offset shallowest deepest) before word
+of_one page least slope offset shallowest deepest before word one =
+    renamed_since (IsKeyAt page least slope offset deepest) (IsKeyOf page least slope offset shallowest deepest) before word
+    (λ k at. record { depth = deepest; from_depth = omega (arith, one); to_depth = omega arith; at = at })
+    (λ k of.
+    let same : of.depth ≡ deepest = omega (arith, one, of.from_depth, of.to_depth) in
+    subst (λ (d : ℕ). IsKeyAt page least slope offset d k) same of.at)

@@ -1,5 +1,9 @@
--- How many boxes of a page fit a line exactly, and the greatest key of a stretch of the grid.
+-- How many boxes of a page fit a line exactly, and the greatest keys of stretches and shapes of the grid.
 pub mod Fits
 pub mod Table
 pub mod Stretches
-pub mod Bests
+pub mod Tops
+pub mod Shapes
+pub mod Plain
+pub mod KeyTables
+pub mod Blocks

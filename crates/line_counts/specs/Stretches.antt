@@ -1,16 +1,12 @@
 -- The greatest key of a stretch of the grid: a slope, a range of offsets and a range of depths.
-use Rattle.std.specs.Prelude.{◌≡◌, ℕ, ◌+◌, ◌*◌, ◌<◌, ◌≤◌, ◌⊎◌, ℤ, pos, ◌+ℤ◌, ◌≤ℤ◌, ◌<ℤ◌, List, [], length, slice_index, slice_index_or}
+use Rattle.std.specs.Prelude.{◌≡◌, ℕ, ◌+◌, ◌<◌, ◌≤◌, ◌⊎◌, ℤ, pos, ◌+ℤ◌, ◌≤ℤ◌, ◌<ℤ◌}
 use Rattle.layout_limits.specs.declared.TheConstants.{MAX_SIDE}
 use Rattle.line_quality.specs.declared.limits.TheConstants.{LEAST_OFFSET, OFFSET_MARGIN, MAX_DEPTH}
 use Rattle.line_quality.specs.Points.{IsSlope}
+use Rattle.box_search.specs.Search.{IsGreatestKey}
 use Rattle.line_quality.specs.Keys.{line_key}
 use Rattle.line_quality.specs.Scores.{IsScore}
 use Rattle.line_counts.specs.declared.stretch.Stretch.{Stretch}
-use Rattle.line_counts.specs.declared.tops.Tops.{Tops}
-use Rattle.line_counts.specs.declared.limits.TheConstants.{MAX_SEGMENTS}
-use Rattle.line_quality.specs.declared.limits.TheConstants.{MAX_SCORE}
-use Rattle.layout_geom.specs.declared.rect.Rect.{Rect}
-use Rattle.line_counts.specs.Fits.{column_of_segment}
 use Rattle.line_counts.specs.Table.{LivingPage}
 
 -- the line scores at least so much among the living boxes, and has the key
@@ -41,28 +37,10 @@ pub record IsGreaterKey (admits : ℕ → Type 0) (before word : ℕ) : Type 0 w
   pub no_less : before ≤ word
   pub greatest : (key : ℕ) → admits key → (0 < word) × (key ≤ word)
 
--- each line of the stretch has a column that begins with the segment
-abbrev pub IsCutBefore : List Rect → Stretch → ℕ → Type 0
-IsCutBefore gutters stretch segment = (more before : ℕ) → more < stretch.offsets → before < segment
-    → column_of_segment stretch.slope (stretch.from +ℤ pos more) gutters before
-    < column_of_segment stretch.slope (stretch.from +ℤ pos more) gutters segment
-
--- a line of the stretch scores at most the top of its offset and that of the offset behind it by its depth
-pub record AreTops (page : LivingPage) (stretch : Stretch) (tops : Tops) : Type 0 where
-  pub long : length tops.each ≡ 128
-  pub small : (place : ℕ) → slice_index tops.each place ≤ MAX_SEGMENTS * MAX_SCORE
-  pub most : (place : ℕ) → slice_index tops.each place ≤ tops.most
-  pub most_small : tops.most ≤ MAX_SEGMENTS * MAX_SCORE
-  pub parts_long : length tops.parts ≡ 4
-  pub part_long : (part : ℕ) → part < 4 → length (slice_index_or tops.parts part []) ≡ 128
-  pub parts_small : (part place : ℕ) → slice_index (slice_index_or tops.parts part []) place ≤ MAX_SEGMENTS * MAX_SCORE
-  pub in_part : (more depth score in_column : ℕ) → more < stretch.offsets → depth ≤ stretch.deepest
-      → IsScore stretch.slope (stretch.from +ℤ pos more) depth page.boxes page.gutters page.alive score in_column
-      → (part : ℕ) × (part < 4)
-      × (score ≤ slice_index (slice_index_or tops.parts part []) more + slice_index (slice_index_or tops.parts part []) (more + depth))
-  pub scores : (more depth score in_column : ℕ) → more < stretch.offsets → depth ≤ stretch.deepest
-      → IsScore stretch.slope (stretch.from +ℤ pos more) depth page.boxes page.gutters page.alive score in_column
-      → score ≤ slice_index tops.each more + slice_index tops.each (more + depth)
+-- none of these keys is greater than the bound, which is less than the one before or one of them
+pub record IsSharper (admits : ℕ → Type 0) (before bound : ℕ) : Type 0 where
+  pub over : (key : ℕ) → admits key → key ≤ bound
+  pub low : (bound < before) ⊎ IsGreatestKey admits bound
 
 -- the stretch is of the grid of a page of this height
 pub record IsOfPage (height : ℕ) (stretch : Stretch) : Type 0 where

@@ -1,14 +1,19 @@
 //! The greatest key of a stretch of the grid.
-ghost use Rattle.std.specs.Prelude.{◌≡◌, ◌+◌, ◌/◌, ◌^◌, ◌<◌, ◌≤◌, pos, ◌+ℤ◌, ◌≤ℤ◌, max};
+ghost use Rattle.std.specs.Prelude.{◌≡◌, ◌+◌, ◌*◌, ◌/◌, ◌^◌, ◌<◌, ◌≤◌, pos, ◌+ℤ◌, ◌≤ℤ◌, ℕ, [], max, length, slice_index, slice_index_or, IsFalse};
 ghost use Rattle.box_search.specs.Search.{IsGreatestKey};
-ghost use Rattle.line_quality.specs.Points.{IsSlope};
-ghost use Rattle.line_counts.specs.Stretches.{IsKeyAt, IsKeyOf, IsKeyIn, IsOfPage, IsGreaterKey, AreTops};
+ghost use Rattle.line_quality.specs.Points.{IsSlope, IsOffset, IsDepth};
+ghost use Rattle.line_quality.specs.Keys;
+ghost use Rattle.line_quality.specs.Scores.{IsScore};
+ghost use Rattle.line_counts.specs.Stretches.{IsKeyAt, IsKeyOf, IsKeyIn, IsOfPage, IsGreaterKey, IsSharper};
+ghost use Rattle.line_counts.specs.Tops.{ArePartCounts, AreBells, AreParts, AreTops, sum_to, weighed};
 
 use crate::counts::Counts;
+use crate::limits::{BATCH, MAX_PART_COUNT, MAX_PARTS, MAX_PLACES, MAX_TABLE_BOXES, MAX_TOPS};
+use crate::parts::Parts;
 use crate::stretch::Stretch;
-use crate::tops::{PART, Tops};
+use crate::tops::tops;
 use layout_limits::MAX_SIDE;
-use line_quality::{LEAST_OFFSET, MAX_DEPTH, OFFSET_MARGIN, line_key};
+use line_quality::{LEAST_OFFSET, MAX_DEPTH, MAX_SCORE, MAX_WEIGHT, OFFSET_MARGIN, line_key};
 
 /// The offset of a stretch that comes so many behind the first.
 fn offset_of(stretch: &Stretch, more: u16) -> i16
@@ -27,6 +32,93 @@ fn needed(least: u32, best: u64) -> u64
     (least as u64).max(best / (1 << 29))
 }
 
+/// The greatest of the first numbers, 0 where there is none.
+fn greatest_of_first(numbers: &[u32], count: usize) -> u32
+    requires { count ≤ length numbers.now }
+    ensures { (place : ℕ) → place < count → slice_index numbers.now place ≤ result }
+{
+    let mut most = 0;
+    for place in 0..count {
+        most = numbers[place].max(most);
+    }
+    most
+}
+
+/// The sum of counts.
+fn total(counts: &[u32]) -> u32
+    requires { ArePartCounts counts.now }
+    ensures value { result ≡ sum_to (λ place. slice_index counts.now place) MAX_PLACES }
+    ensures small { result ≤ MAX_PLACES * MAX_PART_COUNT }
+{
+    let mut total = 0;
+    for place in 0..MAX_PLACES {
+        total += counts[place];
+    }
+    total
+}
+
+/// What the counts of a part weigh at most for a line: no more than two bells, and than if each box stood on the line.
+fn part_most(counts: &[u32], bells: &[u32]) -> u32
+    requires counts { ArePartCounts counts.now }
+    requires bells { AreBells counts.now bells.now }
+    ensures over { (more depth : ℕ) → more < BATCH → depth ≤ MAX_DEPTH → weighed counts.now more depth ≤ result }
+    ensures small { result ≤ MAX_WEIGHT * MAX_PLACES * MAX_PART_COUNT }
+{
+    let bell = greatest_of_first(bells, MAX_TOPS);
+    let all = MAX_WEIGHT * total(counts);
+    bell.saturating_mul(2).min(all)
+}
+
+/// What the counts of some part weigh at most for a line.
+fn most(parts: &Parts) -> u32
+    requires { AreParts parts.now }
+    ensures { (part more depth : ℕ) → part < parts.now.number → more < BATCH → depth ≤ MAX_DEPTH
+        → weighed (slice_index_or parts.now.counts part []) more depth ≤ result }
+{
+    let mut most = 0;
+    for part in 0..parts.number {
+        most = part_most(&parts.counts[part], &parts.bells[part]).max(most);
+    }
+    most
+}
+
+/// Where the greatest of the tops of the first offsets is, that is greater than those before it.
+fn likeliest(tops: &[u32], offsets: u16) -> u16
+    requires some { 0 < offsets }
+    requires long { offsets ≤ length tops.now }
+    ensures { result < offsets }
+{
+    let mut place = 0;
+    for more in 0..offsets {
+        if tops[more as usize] > tops[place as usize] {
+            place = more;
+        }
+    }
+    place
+}
+
+/// Whether a line that scores at most its top may have enough, and a greater key than the best so far.
+fn may_beat(top: u32, slope: i8, offset: i16, depth: u8, least: u32, best: u64) -> bool
+    requires slope { IsSlope slope }
+    requires offset { IsOffset offset }
+    requires depth { IsDepth depth }
+    ensures { IsFalse result → (score : ℕ) → score ≤ top → score ≤ MAX_SCORE → least ≤ score
+        → (0 < best) × (Keys.line_key score slope offset depth ≤ best) }
+{
+    top as u64 >= needed(least, best) && line_key(top.min(MAX_SCORE), slope, offset, depth) > best
+}
+
+/// The lines of one depth of a stretch.
+fn row_of(stretch: &Stretch, depth: u8) -> Stretch
+    ensures { result ≡ record stretch.now { shallowest = depth; deepest = depth } }
+{
+    Stretch {
+        shallowest: depth,
+        deepest: depth,
+        ..*stretch
+    }
+}
+
 /// A part of a stretch: at most so many offsets, from one on.
 fn part_of(stretch: &Stretch, done: u16) -> Stretch
     requires more { done < stretch.now.offsets }
@@ -34,12 +126,12 @@ fn part_of(stretch: &Stretch, done: u16) -> Stretch
     requires high { (stretch.now.from +ℤ pos stretch.now.offsets) ≤ℤ pos (MAX_SIDE + OFFSET_MARGIN + 1) }
     ensures part { result ≡ record stretch.now { from = stretch.now.from +ℤ pos done; offsets = result.offsets } }
     ensures some { 0 < result.offsets }
-    ensures few { result.offsets ≤ PART }
+    ensures few { result.offsets ≤ BATCH }
     ensures within { done + result.offsets ≤ stretch.now.offsets }
 {
     Stretch {
         from: offset_of(stretch, done),
-        offsets: (stretch.offsets - done).min(PART),
+        offsets: (stretch.offsets - done).min(BATCH),
         ..*stretch
     }
 }
@@ -60,42 +152,101 @@ impl Counts {
         line_key(score, slope, offset, depth)
     }
 
-    /// The best key so far, or a greater one of the lines of one offset. A line is passed over that cannot have one.
-    fn greatest_of(&self, stretch: &Stretch, more: u16, tops: &Tops, least: u32, before: u64) -> u64
-        requires of_page { IsOfPage self.now.height stretch.now }
-        requires few { stretch.now.offsets ≤ PART }
-        requires more { more < stretch.now.offsets }
-        requires tops { AreTops self.now stretch.now tops.now }
-        ensures { IsGreaterKey (IsKeyOf self.now least stretch.now.slope (stretch.now.from +ℤ pos more)
-            stretch.now.shallowest stretch.now.deepest) before result }
+    /// The best key so far, or the greater one of a line of a row that scores at most its top.
+    fn better(&self, row: &Stretch, more: u16, top: u32, least: u32, before: u64) -> u64
+        requires of_page { IsOfPage self.now.height row.now }
+        requires row { row.now.shallowest ≡ row.now.deepest }
+        requires more { more < row.now.offsets }
+        requires alive { length self.now.alive ≤ MAX_TABLE_BOXES }
+        requires over { (score in_column : ℕ) → IsScore row.now.slope (row.now.from +ℤ pos more) row.now.deepest
+            self.now.boxes self.now.gutters self.now.alive score in_column → score ≤ top }
+        ensures { IsGreaterKey (IsKeyOf self.now least row.now.slope (row.now.from +ℤ pos more)
+            row.now.shallowest row.now.deepest) before result }
     {
-        let top = tops.each[more as usize];
-        if ((top + tops.most) as u64) < needed(least, before) {
+        let offset = offset_of(row, more);
+        if !may_beat(top, row.slope, offset, row.deepest, least, before) {
             return before;
         }
-        let mut best = before;
-        for depth in stretch.shallowest..stretch.deepest + 1 {
-            if self.can_score(stretch, more, depth, tops, needed(least, best)) {
-                best = self
-                    .key_at(stretch.slope, offset_of(stretch, more), depth, least)
-                    .max(best);
-            }
+        self.key_at(row.slope, offset, row.deepest, least)
+            .max(before)
+    }
+
+    /// The best key so far, or a greater one of the lines of a row. The likeliest one comes first, since the others are then
+    /// mostly passed over.
+    fn greatest_of(&self, row: &Stretch, tops: &[u32], least: u32, before: u64) -> u64
+        requires of_page { IsOfPage self.now.height row.now }
+        requires some { 0 < row.now.offsets }
+        requires few { row.now.offsets ≤ BATCH }
+        requires row { row.now.shallowest ≡ row.now.deepest }
+        requires alive { length self.now.alive ≤ MAX_TABLE_BOXES }
+        requires tops { AreTops self.now row.now row.now.deepest tops.now }
+        ensures { IsGreaterKey (IsKeyIn self.now least row.now) before result }
+    {
+        let most = greatest_of_first(tops, row.offsets as usize);
+        if !may_beat(most, row.slope, row.from, row.deepest, least, before) {
+            return before;
+        }
+        let first = likeliest(tops, row.offsets);
+        let mut best = self.better(row, first, tops[first as usize], least, before);
+        for more in 0..row.offsets {
+            best = self.better(row, more, tops[more as usize], least, best);
         }
         best
     }
 
-    /// The best key so far, or a greater one of the lines of a part of a stretch.
+    /// The best key so far, or a greater one of the lines of a part of a stretch. The deepest come first, since they mostly score most.
     fn greatest_in(&self, stretch: &Stretch, least: u32, before: u64) -> u64
         requires of_page { IsOfPage self.now.height stretch.now }
-        requires few { stretch.now.offsets ≤ PART }
+        requires some { 0 < stretch.now.offsets }
+        requires few { stretch.now.offsets ≤ BATCH }
         ensures { IsGreaterKey (IsKeyIn self.now least stretch.now) before result }
     {
-        let tops = self.tops(stretch);
+        let parts = self.parts(stretch);
+        if (most(&parts) as u64) < needed(least, before) {
+            return before;
+        }
         let mut best = before;
-        for more in 0..stretch.offsets {
-            best = self.greatest_of(stretch, more, &tops, least, best);
+        for less in 0..stretch.deepest - stretch.shallowest + 1 {
+            let depth = stretch.deepest - less;
+            let tops = tops(&parts, depth);
+            best = self.greatest_of(&row_of(stretch, depth), &tops, least, best);
         }
         best
+    }
+
+    /// A bound of the lines of a stretch that score at least so much, by what the counts of parts weigh at most.
+    fn rough(&self, stretch: &Stretch, least: u32) -> u64
+        requires of_page { IsOfPage self.now.height stretch.now }
+        requires some { 0 < stretch.now.offsets }
+        requires few { stretch.now.offsets ≤ BATCH }
+        ensures { (key : ℕ) → IsKeyIn self.now least stretch.now key → key ≤ result }
+    {
+        let parts = self.parts(stretch);
+        let score = most(&parts);
+        if score < least {
+            return 0;
+        }
+        line_key(
+            score.min(MAX_SCORE),
+            stretch.slope,
+            stretch.from,
+            stretch.shallowest,
+        )
+    }
+
+    /// A bound of the lines of a stretch that score at least so much: a rough one where that is less than the one before, and
+    /// else their greatest key.
+    pub(crate) fn sharper(&self, stretch: &Stretch, least: u32, before: u64) -> u64
+        requires of_page { IsOfPage self.now.height stretch.now }
+        requires some { 0 < stretch.now.offsets }
+        requires few { stretch.now.offsets ≤ BATCH }
+        ensures { IsSharper (IsKeyIn self.now least stretch.now) before result }
+    {
+        let rough = self.rough(stretch, least);
+        if rough < before {
+            return rough;
+        }
+        self.greatest(stretch, least)
     }
 
     /// The greatest key of the lines of a stretch whose score among the living boxes is at least so much, or 0 where

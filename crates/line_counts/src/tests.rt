@@ -1,7 +1,8 @@
 //! Values that were worked out by hand from the definitions.
 ghost use Rattle.std.specs.Prelude.{◌≡◌, ◌≤◌, ◌∷◌, [], IfOk, length};
 
-use crate::{Counts, Keys, Stretch};
+use crate::{Counts, Keys, Stretch, fits_table};
+use box_search::Shape;
 use layout_geom::{Numbers, Rect, Rects};
 use layout_limits::OutOfMemory;
 use line_quality::{Score, line_key};
@@ -101,15 +102,67 @@ fn the_greatest_key_is_that_of_what_is_left(rt: HostRuntime) -> Result<(), Fail>
     Ok(())
 }
 
+const GRID: Shape = Shape {
+    a0: -32,
+    a1: 33,
+    b0: -300,
+    b1: 341,
+    c0: 0,
+    c1: 7,
+};
+
 #[test]
-fn keys_stay_exact_as_boxes_go(rt: HostRuntime) -> Result<(), Fail> {
+fn bounds_are_sharp_at_the_greatest_key_as_boxes_go(rt: HostRuntime) -> Result<(), Fail> {
     let mut keys = Keys::new(rt.alloc(), page(rt.alloc())?, 60, 6)?;
-    let before = keys.bests().iter().map(|best| best.key).max();
-    assert_eq!(rt; before, Some(line_key(100, 0, 12, 1)));
+    keys.sharpen();
+    assert_eq!(rt; keys.bound(&GRID), line_key(100, 0, 12, 1));
     keys.take(&RIGHT, numbers(rt.alloc(), &LEFT)?);
-    let after = keys.bests().iter().map(|best| best.key).max();
-    assert_eq!(rt; after, Some(line_key(75, 0, 12, 3)));
+    keys.sharpen();
+    assert_eq!(rt; keys.bound(&GRID), line_key(75, 0, 12, 3));
     assert_eq!(rt; keys.counts().alive().len(), 3);
-    assert_eq!(rt; keys.bests().len(), 65 * 16);
+    Ok(())
+}
+
+#[test]
+fn parts_of_blocks_are_scored_by_their_own_lines(rt: HostRuntime) -> Result<(), Fail> {
+    let keys = Keys::new(rt.alloc(), page(rt.alloc())?, 60, 6)?;
+    let level = Shape {
+        a0: 0,
+        a1: 1,
+        ..GRID
+    };
+    let no_depth = Shape { c1: 1, ..level };
+    assert_eq!(rt; keys.bound(&no_depth), line_key(99, 0, 12, 0));
+    let some_offsets = Shape {
+        b0: 12,
+        b1: 14,
+        ..level
+    };
+    assert_eq!(rt; keys.bound(&some_offsets), line_key(100, 0, 12, 1));
+    let one_line = Shape {
+        b0: 7,
+        b1: 8,
+        c0: 5,
+        c1: 6,
+        ..level
+    };
+    assert_eq!(rt; keys.bound(&one_line), line_key(99, 0, 7, 5));
+    let too_low = Shape {
+        b0: 60,
+        b1: 61,
+        c0: 6,
+        ..level
+    };
+    assert_eq!(rt; keys.bound(&too_low), 0);
+    Ok(())
+}
+
+#[test]
+fn pages_with_few_gutters_get_a_table(rt: HostRuntime) -> Result<(), Fail> {
+    let gutters = rects(rt.alloc(), &GUTTERS)?;
+    assert!(rt; fits_table(8192, &gutters));
+    let many = rects(rt.alloc(), &[(36, 0, 48, 41); 14])?;
+    assert!(rt; fits_table(7500, &many));
+    assert!(rt; !fits_table(8192, &many));
     Ok(())
 }

@@ -1,6 +1,7 @@
-use Rattle.line_counts.specs.Stretches.{IsKeyIn, IsGreaterKey}
-use Rattle.line_counts.proofs.Joining.{first_of}
+use Rattle.std.proofs.Common.{◌+◌, ◌-◌}
+use Rattle.line_counts.specs.Stretches.{IsGreaterKey}
+use Rattle.line_counts.proofs.Joining.{IsKeyFrom}
 use Rattle.line_counts.proofs.counts.Counts.greatest_in.Given as goal
 
-abbrev pub invariant-loop-more : goal.invariant-loop-more
-invariant-loop-more l = IsGreaterKey (IsKeyIn l.self l.least (first_of l.stretch l.more)) l.before l.best
+abbrev pub invariant-loop-less : goal.invariant-loop-less
+invariant-loop-less l = IsGreaterKey (IsKeyFrom l.self l.least l.stretch (l.stretch.deepest + 1 - l.less)) l.before l.best

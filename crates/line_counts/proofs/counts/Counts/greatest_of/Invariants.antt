@@ -1,7 +1,6 @@
-use Rattle.std.proofs.Common.{◌+ℤ◌, pos}
-use Rattle.line_counts.specs.Stretches.{IsGreaterKey}
-use Rattle.line_counts.proofs.Joining.{IsKeyAmong}
+use Rattle.line_counts.specs.Stretches.{IsKeyIn, IsGreaterKey}
+use Rattle.line_counts.proofs.Joining.{first_of}
 use Rattle.line_counts.proofs.counts.Counts.greatest_of.Given as goal
 
-abbrev pub invariant-loop-depth : goal.invariant-loop-depth
-invariant-loop-depth l = IsGreaterKey (IsKeyAmong l.self l.least l.stretch.slope (l.stretch.from +ℤ pos l.more) l.stretch.shallowest l.depth) l.before l.best
+abbrev pub invariant-loop-more : goal.invariant-loop-more
+invariant-loop-more l = IsGreaterKey (IsKeyIn l.self l.least (first_of l.row l.more)) l.initial.best l.best
