@@ -9,8 +9,9 @@ use Rattle.line_quality.specs.Keys.{line_key, rank}
 use Rattle.line_quality.specs.KeyLaws.{abs_parts}
 use Rattle.line_search.specs.Lines.{IsPoint, deepest}
 use Rattle.line_search.specs.Problem.{GridProblem}
-use Rattle.line_search.specs.Shapes.{IsInside, IsInGrid, least_depth}
-use Rattle.line_search.specs.Bounds.{weighing, most_weight, plain_weight, nearest_slope, HasMost, IsOver, IsBound}
+use Rattle.line_counts.specs.Shapes.{IsInside, IsInGrid, least_depth}
+use Rattle.line_counts.specs.Plain.{plain_weight, nearest_slope}
+use Rattle.line_search.specs.Bounds.{weighing, most_weight, HasMost, IsOver, IsBound}
 use Rattle.line_search.specs.GridLaws.{inside_of}
 use Rattle.line_search.specs.Parts.{HasNoPoint}
 use Rattle.line_search.proofs.Reaching.{same_group, same_total}
@@ -61,7 +62,7 @@ wider height deep shape grid = record {
   to_depth = omega (arith, ints, grid.depths, grid.to_depth);
 }
 
-first_point : (height median : ℕ) (shape : Shape) → IsInGrid height (deepest median) shape
+pub first_point : (height median : ℕ) (shape : Shape) → IsInGrid height (deepest median) shape
     → IsPoint height median shape.a0 shape.b0 (least_depth shape)
 first_point height median shape grid = record {
   slope_in = record { low = grid.from_slope; high = omega (arith, ints, grid.some_slope, grid.to_slope) };

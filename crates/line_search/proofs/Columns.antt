@@ -10,7 +10,7 @@ use Rattle.box_search.specs.declared.space.Shape.{Shape}
 use Rattle.line_quality.specs.Points.{middle_of, is_crossed, column_of}
 use Rattle.line_quality.specs.Scores.{weight_of, is_of, group_weight}
 use Rattle.line_quality.proofs.Scored.{first_or_none, in_its_column}
-use Rattle.line_search.specs.Shapes.{IsInside}
+use Rattle.line_counts.specs.Shapes.{IsInside}
 use Rattle.line_search.specs.Bounds.{most_weight, all_cross, sure_column, is_surely, most_in_column}
 use Rattle.line_search.proofs.Heights.{weight_below, between}
 

@@ -9,8 +9,9 @@ use Rattle.line_quality.specs.Points.{height_at, rise, middle_of, weight_at, foo
 use Rattle.line_quality.specs.Scores.{weight_of}
 use Rattle.line_quality.specs.HeightLaws.{rise_grows}
 use Rattle.line_quality.specs.KeyLaws.{abs_parts}
-use Rattle.line_search.specs.Shapes.{IsInside, IsInGrid, least_depth}
-use Rattle.line_search.specs.Bounds.{lowest, highest, gap_to, distance, plain_distance, most_weight, plain_weight}
+use Rattle.line_counts.specs.Shapes.{IsInside, IsInGrid, least_depth}
+use Rattle.line_counts.specs.Plain.{lowest, highest, gap_to, plain_distance, plain_weight}
+use Rattle.line_search.specs.Bounds.{distance, most_weight}
 use borrow.Author.Differences.{up, down}
 
 pub int_gap_is : (a b : ℤ) → int_gap a b ≡ (up b + down a) - (up a + down b)

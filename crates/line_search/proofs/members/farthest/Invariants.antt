@@ -1,6 +1,6 @@
 use Rattle.std.proofs.Common.{◌≤◌, take, All}
 use Rattle.line_quality.specs.Points.{middle_of}
-use Rattle.line_search.proofs.rows.farthest.Given as goal
+use Rattle.line_search.proofs.members.farthest.Given as goal
 
 abbrev pub invariant-loop-rect : goal.invariant-loop-rect
 invariant-loop-rect l = record {
