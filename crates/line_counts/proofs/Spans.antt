@@ -5,7 +5,7 @@ use Rattle.std.proofs.lemmas.List.Elements.{All-more, All-weaker}
 use Rattle.layout_geom.specs.declared.rect.Rect.{Rect}
 use Rattle.line_counts.specs.declared.span.Span.{Span}
 use Rattle.line_counts.specs.Fits.{place_of}
-use Rattle.line_counts.specs.Bests.{AreBetween}
+use Rattle.line_counts.specs.Blocks.{AreBetween}
 
 abbrev between : Span → Option Rect → Type 0
 between span o = IfSome o (λ box. (span.first ≤ place_of span.slope box) × (place_of span.slope box ≤ span.last))

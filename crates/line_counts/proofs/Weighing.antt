@@ -52,7 +52,7 @@ sum_kept p f (x ∷ xs) =
     ∙ sum_kept_one (p x) f x (filter p xs) (filter p xs) refl
 
 -- one more place
-place_more : (b : Bool) (p n w v : ℕ) → (p ≡ n → w ≡ v) → cond (b && ltb p (n + 1)) w 0 ≡ cond (b && ltb p n) w 0 + cond (b && eqb p n) v 0
+pub place_more : (b : Bool) (p n w v : ℕ) → (p ≡ n → w ≡ v) → cond (b && ltb p (n + 1)) w 0 ≡ cond (b && ltb p n) w 0 + cond (b && eqb p n) v 0
 place_more true p n w v same = ⊎_elim
     (λ is. let e : w ≡ v = same is in grind (arith, nat_tests))
     (λ differs. grind (arith, nat_tests))
@@ -76,58 +76,89 @@ weight_before boxes gutters slope offset depth segment place positions = sum_by
 one_behind : (first behind : ℕ) → first + behind + 1 ≡ first + (behind + 1)
 one_behind first behind = omega arith
 
-module _ (boxes gutters : List Rect) (slope offset : ℤ) (depth segment : ℕ) (in_slopes : IsSlope slope) (above : negsuc 299 ≤ℤ offset) where
-  before_more : (place : ℕ) (o : Option Rect) → cond (is_in gutters segment o && ltb (place_in slope o) (place + 1)) (weight_of slope offset depth o) 0
-      ≡ cond (is_in gutters segment o && ltb (place_in slope o) place) (weight_of slope offset depth o) 0
-      + cond (is_in gutters segment o && eqb (place_in slope o) place) (weight_there (first_place offset) depth place) 0
+-- what the boxes of the segment weigh whose places come before one, whatever a box weighs
+abbrev pub sum_before : List Rect → List Rect → ℤ → ℕ → (Option Rect → ℕ) → ℕ → List ℕ → ℕ
+sum_before boxes gutters slope segment weigh place positions = sum_by
+    (λ position. cond (is_in gutters segment (slice_get boxes position) && ltb (place_in slope (slice_get boxes position)) place)
+    (weigh (slice_get boxes position)) 0) positions
+
+-- where a box weighs what its place does
+module _ (boxes gutters : List Rect) (slope : ℤ) (segment : ℕ) (weigh : Option Rect → ℕ) (there : ℕ → ℕ) (by_place : (r : Rect) → weigh (Some r) ≡ there (place_of slope r)) where
+  before_more : (place : ℕ) (o : Option Rect) → cond (is_in gutters segment o && ltb (place_in slope o) (place + 1)) (weigh o) 0
+      ≡ cond (is_in gutters segment o && ltb (place_in slope o) place) (weigh o) 0
+      + cond (is_in gutters segment o && eqb (place_in slope o) place) (there place) 0
   before_more place (Some r) =
-      place_more (eqb (segment_of gutters (middle_of r)) segment) (place_of slope r) place (weight slope offset depth r) (weight_there (first_place offset) depth place)
-      (λ is. weight_by_place slope offset depth r in_slopes above ∙ ap (weight_there (first_place offset) depth) is)
+      place_more (eqb (segment_of gutters (middle_of r)) segment) (place_of slope r) place (weigh (Some r)) (there place)
+      (λ is. by_place r ∙ ap there is)
   before_more place None = omega arith
 
-  before_first : (place : ℕ) (o : Option Rect) → place ≡ first_place offset → cond (is_in gutters segment o && ltb (place_in slope o) place) (weight_of slope offset depth o) 0 ≡ 0
-  before_first place (Some r) is =
-      place_none (eqb (segment_of gutters (middle_of r)) segment) (place_of slope r) place (weight slope offset depth r)
-      (λ less. weight_by_place slope offset depth r in_slopes above ∙ weightless_before (first_place offset) depth (place_of slope r) (omega (arith, less, is)))
-  before_first place None is = refl
+  before_first : (first place : ℕ) → ((p : ℕ) → p < first → there p ≡ 0) → place ≡ first → (o : Option Rect)
+      → cond (is_in gutters segment o && ltb (place_in slope o) place) (weigh o) 0 ≡ 0
+  before_first first place weightless is (Some r) =
+      place_none (eqb (segment_of gutters (middle_of r)) segment) (place_of slope r) place (weigh (Some r))
+      (λ less. by_place r ∙ weightless (place_of slope r) (omega (arith, less, is)))
+  before_first first place weightless is None = refl
 
-  before_last : (place : ℕ) (o : Option Rect) → place ≡ first_place offset + (2 * 4 + depth + 1)
-      → cond (is_in gutters segment o && ltb (place_in slope o) place) (weight_of slope offset depth o) 0 ≡ cond (is_in gutters segment o) (weight_of slope offset depth o) 0
-  before_last place (Some r) is =
-      place_all (eqb (segment_of gutters (middle_of r)) segment) (place_of slope r) place (weight slope offset depth r)
-      (λ more. weight_by_place slope offset depth r in_slopes above ∙ weightless_behind (first_place offset) depth (place_of slope r) (omega (arith, more, is)))
-  before_last place None is = refl
+  before_last : (last place : ℕ) → ((p : ℕ) → last ≤ p → there p ≡ 0) → place ≡ last → (o : Option Rect)
+      → cond (is_in gutters segment o && ltb (place_in slope o) place) (weigh o) 0 ≡ cond (is_in gutters segment o) (weigh o) 0
+  before_last last place weightless is (Some r) =
+      place_all (eqb (segment_of gutters (middle_of r)) segment) (place_of slope r) place (weigh (Some r))
+      (λ more. by_place r ∙ weightless (place_of slope r) (omega (arith, more, is)))
+  before_last last place weightless is None = refl
+
+  pub sum_none : (first place : ℕ) → ((p : ℕ) → p < first → there p ≡ 0) → place ≡ first → (positions : List ℕ) → sum_before boxes gutters slope segment weigh place positions ≡ 0
+  sum_none first place weightless is positions =
+      no_sum (λ position. cond (is_in gutters segment (slice_get boxes position) && ltb (place_in slope (slice_get boxes position)) place) (weigh (slice_get boxes position)) 0)
+      (λ position. before_first first place weightless is (slice_get boxes position)) positions
+
+  pub sum_more : (place : ℕ) (positions : List ℕ) → sum_before boxes gutters slope segment weigh (place + 1) positions
+      ≡ sum_before boxes gutters slope segment weigh place positions + count_of boxes gutters slope segment place positions * there place
+  sum_more place positions =
+      sum_two (λ position. cond (is_in gutters segment (slice_get boxes position) && ltb (place_in slope (slice_get boxes position)) (place + 1)) (weigh (slice_get boxes position)) 0)
+      (λ position. cond (is_in gutters segment (slice_get boxes position) && ltb (place_in slope (slice_get boxes position)) place) (weigh (slice_get boxes position)) 0)
+      (λ position. cond (is_in gutters segment (slice_get boxes position) && eqb (place_in slope (slice_get boxes position)) place) (there place) 0)
+      (λ position. before_more place (slice_get boxes position)) positions
+      ∙ ap (λ n. sum_before boxes gutters slope segment weigh place positions + n)
+      (sum_times (λ position. is_in gutters segment (slice_get boxes position) && eqb (place_in slope (slice_get boxes position)) place) (there place) positions)
+
+  pub sum_all : (last place : ℕ) → ((p : ℕ) → last ≤ p → there p ≡ 0) → place ≡ last → (positions : List ℕ)
+      → sum_before boxes gutters slope segment weigh place positions ≡ sum_by (λ position. cond (is_in gutters segment (slice_get boxes position)) (weigh (slice_get boxes position)) 0) positions
+  sum_all last place weightless is positions =
+      same_sum (λ position. cond (is_in gutters segment (slice_get boxes position) && ltb (place_in slope (slice_get boxes position)) place) (weigh (slice_get boxes position)) 0)
+      (λ position. cond (is_in gutters segment (slice_get boxes position)) (weigh (slice_get boxes position)) 0)
+      (λ position. before_last last place weightless is (slice_get boxes position)) positions
+
+  -- so the next count adds its weight
+  pub sum_next : (first behind total counted weighs : ℕ) (positions : List ℕ) → total ≡ sum_before boxes gutters slope segment weigh (first + behind) positions
+      → counted ≡ count_of boxes gutters slope segment (first + behind) positions → there (first + behind) ≡ weighs
+      → total + counted * weighs ≡ sum_before boxes gutters slope segment weigh (first + (behind + 1)) positions
+  sum_next first behind total counted weighs positions is counted_is weighs_is =
+      let parts : total + counted * weighs ≡ sum_before boxes gutters slope segment weigh (first + behind) positions
+      + count_of boxes gutters slope segment (first + behind) positions * there (first + behind) =
+      rw (← is, ← counted_is, weighs_is) refl in
+      parts ∙ sym (sum_more (first + behind) positions) ∙ ap (λ (place : ℕ). sum_before boxes gutters slope segment weigh place positions) (one_behind first behind)
+
+-- as for the weights of a line
+module _ (boxes gutters : List Rect) (slope offset : ℤ) (depth segment : ℕ) (in_slopes : IsSlope slope) (above : negsuc 299 ≤ℤ offset) where
+  line_place : (r : Rect) → weight_of slope offset depth (Some r) ≡ weight_there (first_place offset) depth (place_of slope r)
+  line_place r = weight_by_place slope offset depth r in_slopes above
 
   pub weight_none : (place : ℕ) (positions : List ℕ) → place ≡ first_place offset → weight_before boxes gutters slope offset depth segment place positions ≡ 0
-  weight_none place positions is = no_sum (λ position. cond (is_in gutters segment (slice_get boxes position) && ltb (place_in slope (slice_get boxes position)) place) (weight_of slope offset depth (slice_get boxes position)) 0) (λ position. before_first place (slice_get boxes position) is) positions
-
-  pub weight_more : (place : ℕ) (positions : List ℕ) → weight_before boxes gutters slope offset depth segment (place + 1) positions
-      ≡ weight_before boxes gutters slope offset depth segment place positions + count_of boxes gutters slope segment place positions * weight_there (first_place offset) depth place
-  weight_more place positions =
-      sum_two (λ position. cond (is_in gutters segment (slice_get boxes position) && ltb (place_in slope (slice_get boxes position)) (place + 1)) (weight_of slope offset depth (slice_get boxes position)) 0)
-      (λ position. cond (is_in gutters segment (slice_get boxes position) && ltb (place_in slope (slice_get boxes position)) place) (weight_of slope offset depth (slice_get boxes position)) 0)
-      (λ position. cond (is_in gutters segment (slice_get boxes position) && eqb (place_in slope (slice_get boxes position)) place) (weight_there (first_place offset) depth place) 0)
-      (λ position. before_more place (slice_get boxes position)) positions
-      ∙ ap (λ n. weight_before boxes gutters slope offset depth segment place positions + n)
-      (sum_times (λ position. is_in gutters segment (slice_get boxes position) && eqb (place_in slope (slice_get boxes position)) place) (weight_there (first_place offset) depth place) positions)
+  weight_none place positions is =
+      sum_none boxes gutters slope segment (weight_of slope offset depth) (weight_there (first_place offset) depth) line_place (first_place offset) place (weightless_before (first_place offset) depth) is positions
 
   pub weight_all : (place : ℕ) (positions : List ℕ) → place ≡ first_place offset + (2 * 4 + depth + 1)
       → weight_before boxes gutters slope offset depth segment place positions ≡ segment_weight boxes gutters slope offset depth segment positions
   weight_all place positions is =
-      same_sum (λ position. cond (is_in gutters segment (slice_get boxes position) && ltb (place_in slope (slice_get boxes position)) place) (weight_of slope offset depth (slice_get boxes position)) 0)
-      (λ position. cond (is_in gutters segment (slice_get boxes position)) (weight_of slope offset depth (slice_get boxes position)) 0)
-      (λ position. before_last place (slice_get boxes position) is) positions
+      sum_all boxes gutters slope segment (weight_of slope offset depth) (weight_there (first_place offset) depth) line_place (first_place offset + (2 * 4 + depth + 1)) place
+      (weightless_behind (first_place offset) depth) is positions
 
-  -- so the next count adds its weight
   pub weight_next : (behind total counted weighs : ℕ) (positions : List ℕ) → total ≡ weight_before boxes gutters slope offset depth segment (first_place offset + behind) positions
       → counted ≡ count_of boxes gutters slope segment (first_place offset + behind) positions → weighs ≡ weight_behind depth behind
       → total + counted * weighs ≡ weight_before boxes gutters slope offset depth segment (first_place offset + (behind + 1)) positions
   weight_next behind total counted weighs positions is counted_is weighs_is =
-      let there : weight_there (first_place offset) depth (first_place offset + behind) ≡ weighs = weight_between (first_place offset) depth behind ∙ sym weighs_is in
-      let parts : total + counted * weighs ≡ weight_before boxes gutters slope offset depth segment (first_place offset + behind) positions
-      + count_of boxes gutters slope segment (first_place offset + behind) positions * weight_there (first_place offset) depth (first_place offset + behind) =
-      rw (← is, ← counted_is, there) refl in
-      parts ∙ sym (weight_more (first_place offset + behind) positions) ∙ ap (λ (place : ℕ). weight_before boxes gutters slope offset depth segment place positions) (one_behind (first_place offset) behind)
+      sum_next boxes gutters slope segment (weight_of slope offset depth) (weight_there (first_place offset) depth) line_place (first_place offset) behind total counted weighs positions is counted_is
+      (weight_between (first_place offset) depth behind ∙ sym weighs_is)
 
 cond_low : (b : Bool) (w : ℕ) → w ≤ 25 → cond b w 0 ≤ 25
 cond_low true w low = low

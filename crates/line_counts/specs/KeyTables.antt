@@ -20,3 +20,9 @@ pub record IsShapeBound (page : LivingPage) (least : ℕ) (shape : Shape) (bound
   pub over : (key : ℕ) → IsKeyInShape page least shape key → key ≤ bound
   pub plain : bound ≤ plain_key page.boxes page.alive shape
   pub single : IsSingle shape → IsGreatestKey (IsKeyInShape page least shape) bound
+
+-- the page, the least score, and the greatest depth
+pub record KeyTable : Type 0 where
+  pub page : LivingPage
+  pub least : ℕ
+  pub deepest : ℕ

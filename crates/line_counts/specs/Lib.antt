@@ -2,7 +2,7 @@
 pub mod Fits
 pub mod Table
 pub mod Stretches
-pub mod Bests
 pub mod Shapes
 pub mod Plain
 pub mod KeyTables
+pub mod Blocks

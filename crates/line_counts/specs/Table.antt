@@ -2,7 +2,7 @@
 use Rattle.std.specs.Prelude.{◌≡◌, ℕ, ◌+◌, ◌*◌, ◌<◌, ◌≤◌, ◌&&◌, ◌==◌, cond, ℤ, List, length, slice_index, All, Some}
 use Rattle.layout_limits.specs.declared.TheConstants.{MAX_SIDE}
 use Rattle.layout_geom.specs.declared.rect.Rect.{Rect}
-use Rattle.line_counts.specs.declared.limits.TheConstants.{SLOPES, MAX_TABLE_GUTTERS, MAX_TABLE_BOXES, PLACES_BEYOND, REACH}
+use Rattle.line_counts.specs.declared.limits.TheConstants.{SLOPES, MAX_TABLE_GUTTERS, MAX_TABLE_BOXES, MAX_TABLE_BYTES, PLACES_BEYOND, REACH}
 use Rattle.line_quality.specs.Points.{middle_of}
 use Rattle.line_counts.specs.Fits.{slope_of, place_of, segment_of, is_in, place_in, count_of, first_place}
 
@@ -66,3 +66,11 @@ pub record IsRow (page : LivingPage) (slope offset : ℤ) (depth segment : ℕ) 
   pub long : length row ≡ 2 * REACH + depth + 1
   pub counts : (behind : ℕ) → behind < length row
       → slice_index row behind ≡ count_of page.boxes page.gutters slope segment (first_place offset + behind) page.alive
+
+-- two bytes for each slope, each segment and each row of the page or of those round it
+abbrev pub table_bytes : ℕ → ℕ → ℕ
+table_bytes height gutters = 2 * SLOPES * (gutters + 1) * (height + PLACES_BEYOND)
+
+-- a page of this height with so many gutters has few of them, and its table is not too large
+abbrev pub FitsTable : ℕ → ℕ → Type 0
+FitsTable height gutters = (gutters ≤ MAX_TABLE_GUTTERS) × (table_bytes height gutters ≤ MAX_TABLE_BYTES)

@@ -2,14 +2,19 @@
 //! a line is a weighted sum of a few of them, however many boxes a page has.
 #![tactic(auto)]
 
-mod best;
+mod block;
 mod blocks;
+mod bounds;
 mod counts;
 mod fit;
 mod greatest;
 mod keys;
 mod limits;
+mod lowering;
+mod plain;
 mod score;
+mod sharpening;
+mod sizes;
 mod span;
 mod stretch;
 mod table;
@@ -17,8 +22,8 @@ mod table;
 mod tests;
 mod tops;
 
-pub use best::Best;
 pub use counts::Counts;
 pub use keys::Keys;
-pub use limits::{MAX_TABLE_BOXES, MAX_TABLE_GUTTERS};
+pub use limits::{MAX_TABLE_BOXES, MAX_TABLE_BYTES, MAX_TABLE_GUTTERS};
+pub use sizes::fits_table;
 pub use stretch::Stretch;

@@ -13,6 +13,9 @@ pub(crate) const MAX_SEGMENTS: usize = MAX_TABLE_GUTTERS + 1;
 /// The most boxes of a page with a table, so that 16 bits hold each count.
 pub const MAX_TABLE_BOXES: usize = 60_000;
 
+/// The most bytes that a table of counts is to take.
+pub const MAX_TABLE_BYTES: usize = 16_000_000;
+
 /// How many rows a foot may be off a line, and still weigh something.
 pub(crate) const REACH: u16 = 4;
 

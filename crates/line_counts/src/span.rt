@@ -1,10 +1,12 @@
 //! The places between which the members of a line stand.
 ghost use Rattle.std.specs.Prelude.{◌≡◌, ◌<◌, length, All};
 ghost use Rattle.line_quality.specs.Points.{IsSlope};
-ghost use Rattle.line_counts.specs.Bests.{AreBetween};
+ghost use Rattle.line_counts.specs.Blocks.{AreBetween, AreSpans};
 
-use crate::fit::place;
+use crate::fit::{place, slope};
+use crate::limits::SLOPES;
 use layout_geom::Rects;
+use line_quality::LEAST_SLOPE;
 
 /// Places at a slope: no member stands before the first or behind the last.
 #[derive(Clone, Copy)]
@@ -15,7 +17,7 @@ pub(crate) struct Span {
 }
 
 /// Between which places the boxes of members stand at a slope.
-pub(crate) fn span_of(slope: i8, boxes: &Rects, members: &[u32]) -> Span
+fn span_of(slope: i8, boxes: &Rects, members: &[u32]) -> Span
     requires slope { IsSlope slope }
     requires within { All (λ position. position < length boxes.now) members.now }
     ensures slope { result.slope ≡ slope }
@@ -37,16 +39,14 @@ pub(crate) fn span_of(slope: i8, boxes: &Rects, members: &[u32]) -> Span
     span
 }
 
-/// The span of the members at a slope: this one, where it is of that slope.
-pub(crate) fn span_at(slope: i8, span: Span, boxes: &Rects, members: &[u32]) -> Span
-    requires slope { IsSlope slope }
+/// Between which places they stand at each slope.
+pub(crate) fn spans_of(boxes: &Rects, members: &[u32]) -> [Span; SLOPES]
     requires within { All (λ position. position < length boxes.now) members.now }
-    requires between { AreBetween boxes.now span members.now }
-    ensures slope { result.slope ≡ slope }
-    ensures between { AreBetween boxes.now result members.now }
+    ensures { AreSpans boxes.now members.now result }
 {
-    if span.slope == slope {
-        return span;
+    let mut spans = [span_of(LEAST_SLOPE, boxes, members); SLOPES];
+    for number in 0..SLOPES {
+        spans[number] = span_of(slope(number), boxes, members);
     }
-    span_of(slope, boxes, members)
+    spans
 }

@@ -2,6 +2,7 @@
 ghost use Rattle.std.specs.Prelude.{◌≡◌, ◌≤◌, ◌∷◌, [], IfOk, length};
 
 use crate::{Counts, Keys, Stretch};
+use box_search::Shape;
 use layout_geom::{Numbers, Rect, Rects};
 use layout_limits::OutOfMemory;
 use line_quality::{Score, line_key};
@@ -101,15 +102,70 @@ fn the_greatest_key_is_that_of_what_is_left(rt: HostRuntime) -> Result<(), Fail>
     Ok(())
 }
 
+const GRID: Shape = Shape {
+    a0: -32,
+    a1: 33,
+    b0: -300,
+    b1: 341,
+    c0: 0,
+    c1: 7,
+};
+
 #[test]
-fn keys_stay_exact_as_boxes_go(rt: HostRuntime) -> Result<(), Fail> {
+fn bounds_are_sharp_at_the_greatest_key_as_boxes_go(rt: HostRuntime) -> Result<(), Fail> {
     let mut keys = Keys::new(rt.alloc(), page(rt.alloc())?, 60, 6)?;
-    let before = keys.bests().iter().map(|best| best.key).max();
-    assert_eq!(rt; before, Some(line_key(100, 0, 12, 1)));
+    keys.sharpen();
+    assert_eq!(rt; keys.bound(&GRID), line_key(100, 0, 12, 1));
     keys.take(&RIGHT, numbers(rt.alloc(), &LEFT)?);
-    let after = keys.bests().iter().map(|best| best.key).max();
-    assert_eq!(rt; after, Some(line_key(75, 0, 12, 3)));
+    keys.sharpen();
+    assert_eq!(rt; keys.bound(&GRID), line_key(75, 0, 12, 3));
     assert_eq!(rt; keys.counts().alive().len(), 3);
-    assert_eq!(rt; keys.bests().len(), 65 * 16);
+    Ok(())
+}
+
+#[test]
+fn parts_of_blocks_are_scored_by_their_own_lines(rt: HostRuntime) -> Result<(), Fail> {
+    let keys = Keys::new(rt.alloc(), page(rt.alloc())?, 60, 6)?;
+    let level = Shape {
+        a0: 0,
+        a1: 1,
+        ..GRID
+    };
+    let cases = [
+        ("no depth", Shape { c1: 1, ..level }, line_key(99, 0, 12, 0)),
+        (
+            "some offsets",
+            Shape {
+                b0: 12,
+                b1: 14,
+                ..level
+            },
+            line_key(100, 0, 12, 1),
+        ),
+        (
+            "one line",
+            Shape {
+                b0: 7,
+                b1: 8,
+                c0: 5,
+                c1: 6,
+                ..level
+            },
+            line_key(99, 0, 7, 5),
+        ),
+        (
+            "one line that scores too little",
+            Shape {
+                b0: 60,
+                b1: 61,
+                c0: 6,
+                ..level
+            },
+            0,
+        ),
+    ];
+    for (name, shape, key) in cases {
+        assert_eq!(rt; keys.bound(&shape), key, "{name}");
+    }
     Ok(())
 }

@@ -12,7 +12,7 @@ use crate::span::Span;
 use box_search::{Node, Shape, Space, Step};
 use layout_geom::{Numbers, Rects};
 use layout_limits::{MAX_SIDE, OutOfMemory};
-use line_counts::{Counts, Keys, MAX_TABLE_GUTTERS};
+use line_counts::{Counts, Keys, fits_table};
 use line_quality::{
     LEAST_OFFSET, LEAST_SLOPE, MAX_DEPTH, MAX_GUTTERS, MAX_SLOPE, OFFSET_MARGIN, Score, line_key,
     point_of, score_at,
@@ -135,7 +135,7 @@ impl Grid {
         ensures alive { IfOk result (λ grid. grid.alive ≡ alive) }
         ensures gutters { IfOk result (λ grid. grid.gutters ≡ gutters) }
     {
-        if alive.len() < LEAST_MEMBERS || gutters.len() > MAX_TABLE_GUTTERS {
+        if alive.len() < LEAST_MEMBERS || !fits_table(height, &gutters) {
             return Ok(Grid::new(boxes, alive, gutters, height, median));
         }
         let counts = Counts::new(alloc, boxes, alive, gutters, height)?;

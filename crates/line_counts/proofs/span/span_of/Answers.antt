@@ -4,7 +4,7 @@ use Rattle.std.proofs.lemmas.List.Elements.{All-get_or}
 use Rattle.std.proofs.lemmas.Option.{slice_get_read}
 use Rattle.layout_geom.specs.declared.rect.Rect.{Rect}
 use Rattle.line_counts.specs.declared.span.Span.{Span}
-use Rattle.line_counts.specs.Bests.{AreBetween}
+use Rattle.line_counts.specs.Blocks.{AreBetween}
 use Rattle.line_counts.proofs.Spans.{span_more}
 use Rattle.line_counts.proofs.span.span_of.Goals as goal
 

@@ -1,5 +1,5 @@
 use Rattle.std.proofs.Common.{◌≡◌, take}
-use Rattle.line_counts.specs.Bests.{AreBetween}
+use Rattle.line_counts.specs.Blocks.{AreBetween}
 use Rattle.line_counts.proofs.span.span_of.Given as goal
 
 abbrev pub invariant-loop-member : goal.invariant-loop-member

@@ -1,0 +1,95 @@
+//! Plain keys of the lines of one slope and neighbouring offsets, by counts alone.
+ghost use Rattle.std.specs.Prelude.{◌≡◌, ◌+◌, ◌*◌, ◌<◌, ◌≤◌, pos, ◌+ℤ◌, ◌≤ℤ◌, length, slice_get};
+ghost use Rattle.std.specs.List.{sum_by};
+ghost use Rattle.line_quality.specs.Points.{IsSlope};
+ghost use Rattle.line_counts.specs.Plain.{plain_weight};
+ghost use Rattle.line_counts.specs.Blocks;
+ghost use Rattle.line_counts.specs.Blocks.{IsKeyBound, lines_of};
+
+use crate::blocks::MAX_BLOCK;
+use crate::counts::Counts;
+use crate::limits::REACH;
+use layout_limits::MAX_SIDE;
+use line_quality::{
+    LEAST_OFFSET, MAX_DEPTH, MAX_SCORE, MAX_WEIGHT, OFFSET_MARGIN, line_key, weight_at,
+};
+
+/// How many rows the lines of some neighbouring offsets and their descenders take beside the first.
+pub(crate) fn more_rows(offsets: u16, deepest: u8) -> u8
+    requires some { 0 < offsets }
+    requires few { offsets ≤ MAX_BLOCK }
+    requires deep { deepest ≤ MAX_DEPTH }
+    ensures { result + 1 ≡ offsets + deepest }
+{
+    (offsets - 1) as u8 + deepest
+}
+
+/// What a box weighs at most for one of a row and so many more, whose place is so many places behind the first that weighs
+/// something.
+fn nearest_weight(more: u8, behind: usize) -> u32
+    requires { behind ≤ 1000 }
+    ensures value { result ≡ Blocks.nearest_weight more behind }
+    ensures small { result ≤ MAX_WEIGHT }
+{
+    let above = (REACH as u32).saturating_sub(behind as u32);
+    let below = (behind as u32).saturating_sub(REACH as u32 + more as u32);
+    weight_at(above + below)
+}
+
+impl Counts {
+    /// What the boxes of a segment weigh at most together for lines of a slope and some offsets.
+    fn plain_segment(&self, slope: i8, from: i16, more: u8, of_segment: usize) -> u32
+        requires slope { IsSlope slope }
+        requires low { LEAST_OFFSET ≤ℤ from }
+        requires high { (from +ℤ pos more) ≤ℤ pos (self.now.height + OFFSET_MARGIN + MAX_DEPTH) }
+        requires segment { of_segment ≤ length self.now.gutters }
+        ensures value { result ≡ Blocks.plain_segment self.now.boxes self.now.gutters slope from more of_segment self.now.alive }
+        ensures small { result ≤ MAX_SCORE }
+    {
+        let mut total = 0;
+        for (behind, count) in self.row(slope, from, more, of_segment).iter().enumerate() {
+            total += *count as u32 * nearest_weight(more, behind);
+        }
+        total
+    }
+
+    /// What all boxes weigh at most together for them.
+    fn plain_score(&self, slope: i8, from: i16, more: u8) -> u32
+        requires slope { IsSlope slope }
+        requires low { LEAST_OFFSET ≤ℤ from }
+        requires high { (from +ℤ pos more) ≤ℤ pos (self.now.height + OFFSET_MARGIN + MAX_DEPTH) }
+        ensures value { result ≡ sum_by (λ position. plain_weight (lines_of slope from 1 more) (slice_get self.now.boxes position)) self.now.alive }
+        ensures small { result ≤ MAX_SCORE }
+    {
+        let mut total = 0;
+        for of_segment in 0..self.gutters.len() + 1 {
+            total += self.plain_segment(slope, from, more, of_segment);
+        }
+        total
+    }
+
+    /// The plain key of the lines of a slope and some offsets, or 0 where it is that of too little a score.
+    pub(crate) fn plain_key(
+        &self,
+        slope: i8,
+        from: i16,
+        offsets: u16,
+        least: u32,
+        deepest: u8,
+    ) -> u64
+        requires page { self.now.height ≤ MAX_SIDE }
+        requires slope { IsSlope slope }
+        requires low { LEAST_OFFSET ≤ℤ from }
+        requires high { (from +ℤ pos offsets) ≤ℤ pos (self.now.height + OFFSET_MARGIN + 1) }
+        requires some { 0 < offsets }
+        requires few { offsets ≤ MAX_BLOCK }
+        requires deep { deepest ≤ MAX_DEPTH }
+        ensures { IsKeyBound self.now least (lines_of slope from offsets deepest) result }
+    {
+        let score = self.plain_score(slope, from, more_rows(offsets, deepest));
+        if score < least {
+            return 0;
+        }
+        line_key(score, slope, from, 0)
+    }
+}
