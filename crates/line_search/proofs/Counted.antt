@@ -1,5 +1,5 @@
 -- Why a bound from a table of keys is one of the grid.
-use Rattle.std.proofs.Common.{◌≡◌, ℕ, ◌<◌, ◌≤◌, min, ℤ, pos, ◌+ℤ◌, ◌≤ℤ◌, unsigned_abs, arith, refl, sym, subst, ap, List, length, ◌<ℤ◌, ⊎_elim, take, drop, ◌-◌}
+use Rattle.std.proofs.Common.{◌≡◌, ℕ, ◌<◌, ◌≤◌, min, ℤ, pos, ◌+ℤ◌, ◌≤ℤ◌, unsigned_abs, arith, refl, subst, ap, length, ◌<ℤ◌, ⊎_elim, ◌-◌}
 use Rattle.std.proofs.lemmas.List.{take_all}
 use Rattle.std.proofs.lemmas.Int.{ints}
 use Rattle.std.proofs.lemmas.Bool.{cases_lt}
@@ -20,7 +20,6 @@ use Rattle.line_search.specs.Parts.{HasNoPoint}
 use Rattle.line_search.specs.GridLaws.{inside_of}
 use Rattle.line_search.proofs.Bounding.{first_point}
 use Rattle.line_search.proofs.Taking.{same_place}
-use borrow.Author.Differences.{up, down}
 
 -- a point that scores less than a line has a lesser key than any line
 low_key : (score : ℕ) (slope offset : ℤ) (depth : ℕ) → score < 60 → line_key score slope offset depth ≤ 32212254720

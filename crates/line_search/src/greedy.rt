@@ -16,7 +16,7 @@ use line_quality::MAX_GUTTERS;
 use std::alloc::Global;
 
 /// The rectangles, in a list of their own.
-fn copy_of(alloc: Global, rects: &Rects) -> Result<Rects, OutOfMemory>
+pub(crate) fn copy_of(alloc: Global, rects: &Rects) -> Result<Rects, OutOfMemory>
     requires { length rects.now ≤ 60000 }
     ensures { IfOk result (λ copy. copy ≡ rects.now) }
 {

@@ -1,7 +1,7 @@
-use Rattle.std.proofs.Common.{◌≡◌, ◌∙◌, ap, ℕ, List, All, subst, sym}
+use Rattle.std.proofs.Common.{◌≡◌, ◌∙◌, ap, List, All, subst, sym}
 use Rattle.layout_geom.specs.declared.rect.Rect.{Rect}
 use Rattle.layout_geom.specs.Rectangles.{Encloses}
-use Rattle.line_search.specs.Lines.{characters_of, IsLineList}
+use Rattle.line_search.specs.Lines.{characters_of}
 use Rattle.line_search.specs.Problem.{GridProblem}
 use Rattle.line_search.proofs.Taking.{IsGridAnswer, no_line, ended, one_more}
 use Rattle.line_search.proofs.Rising.{characters_rise, members_rise}

@@ -1,4 +1,4 @@
-use Rattle.std.proofs.Common.{arith, ap, sym, ◌≡◌, ◌∙◌, subst}
+use Rattle.std.proofs.Common.{arith, ap, ◌≡◌, ◌∙◌, subst}
 use Rattle.line_search.specs.Lines.{deepest}
 use Rattle.line_search.specs.Problem.{GridProblem, IsWithinLimits}
 use Rattle.line_search.proofs.Steps.{root_is}
