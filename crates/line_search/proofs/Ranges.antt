@@ -8,7 +8,7 @@ use Rattle.line_quality.specs.Points.{height_at, IsSlope}
 use Rattle.line_counts.specs.Shapes.{IsInGrid, whole_grid}
 use Rattle.line_counts.specs.Plain.{nearest_slope}
 use Rattle.line_search.specs.Parts.{half}
-use Rattle.line_search.proofs.Heights.{int_gap_is}
+use Rattle.line_counts.proofs.Growing.{int_gap_is}
 use borrow.Author.Differences.{up, down}
 
 pub length_one : (low high : ℤ) → negsuc 9999 ≤ℤ low → low <ℤ high → high ≤ℤ pos 9999 → (IsTrue (nat_eq (of_z w32 (to_z w32 (of_z w32 high) -ℤ to_z w32 (of_z w32 low))) 1) → high ≡ low +ℤ pos 1) × (high ≡ low +ℤ pos 1 → IsTrue (nat_eq (of_z w32 (to_z w32 (of_z w32 high) -ℤ to_z w32 (of_z w32 low))) 1))
