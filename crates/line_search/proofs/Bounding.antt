@@ -1,6 +1,6 @@
 -- Why the bound of a shape is one.
-use Rattle.std.proofs.Common.{◌≡◌, ℕ, ◌+◌, ◌-◌, ◌*◌, ◌^◌, ◌<◌, ◌≤◌, min, ℤ, pos, negsuc, ◌+ℤ◌, ◌≤ℤ◌, ◌<ℤ◌, unsigned_abs, arith, refl, sym, ◌∙◌, ap, List, slice_get, ◌⊎◌, inl, inr}
-use Rattle.std.proofs.lemmas.Int.{ints, clamps}
+use Rattle.std.proofs.Common.{◌≡◌, ℕ, ◌<◌, ◌≤◌, min, ℤ, pos, ◌+ℤ◌, ◌≤ℤ◌, unsigned_abs, arith, refl, sym, ◌∙◌, ap, List, slice_get}
+use Rattle.std.proofs.lemmas.Int.{ints}
 use Rattle.std.specs.List.{sum_by}
 use Rattle.std.proofs.lemmas.List.Sums.{sum_by-le-sum_by}
 use Rattle.box_search.specs.declared.space.Shape.{Shape}
@@ -9,42 +9,21 @@ use Rattle.line_quality.specs.Keys.{line_key, rank}
 use Rattle.line_quality.specs.KeyLaws.{abs_parts}
 use Rattle.line_search.specs.Lines.{IsPoint, deepest}
 use Rattle.line_search.specs.Problem.{GridProblem}
-use Rattle.line_search.specs.Shapes.{IsInside, IsInGrid, least_depth}
-use Rattle.line_search.specs.Bounds.{weighing, most_weight, plain_weight, nearest_slope, HasMost, IsOver, IsBound}
+use Rattle.line_counts.specs.Shapes.{IsInside, IsInGrid, least_depth}
+use Rattle.line_counts.specs.Plain.{plain_weight, nearest_slope}
+use Rattle.line_search.specs.Bounds.{weighing, most_weight, HasMost, IsOver, IsBound}
 use Rattle.line_search.specs.GridLaws.{inside_of}
 use Rattle.line_search.specs.Parts.{HasNoPoint}
+use Rattle.line_counts.proofs.Growing.{least_rank, key_below, offset_below, depth_below}
 use Rattle.line_search.proofs.Reaching.{same_group, same_total}
 use Rattle.line_search.proofs.Columns.{group_within}
 use Rattle.line_search.proofs.Heights.{plain_above}
 use Rattle.line_search.proofs.Sums.{column_below}
 use Rattle.line_search.proofs.Singles.{single_nearest, single_score}
-use borrow.Author.Differences.{up, down}
-
-one_part : (z : ℤ) → (up z ≡ 0) ⊎ (down z ≡ 0)
-one_part (pos n) = inr refl
-one_part (negsuc n) = inl refl
-
-rank_parts : (s : ℤ) → rank s ≡ (2 * up s - 1) + 2 * down s
-rank_parts (pos n) = omega arith
-rank_parts (negsuc n) = omega arith
-
-least_rank : (a0 a1 s n : ℤ) → a0 ≤ℤ s → s <ℤ a1 → n ≡ nearest_slope (record { a0 = a0; a1 = a1; b0 = pos 0; b1 = pos 0; c0 = pos 0; c1 = pos 0 }) → rank n ≤ rank s
-least_rank a0 a1 s n low high is =
-    omega (arith, ints, clamps, rank_parts n, rank_parts s, one_part n, one_part s)
-
-key_below : (s s' d d' r r' b b' : ℕ) → s ≤ s' → d' ≤ d → r' ≤ r → b' ≤ b
-    → s * 2 ^ 29 + (63 - d) * 2 ^ 23 + (64 - r) * 2 ^ 16 + (65535 - b) ≤ s' * 2 ^ 29 + (63 - d') * 2 ^ 23 + (64 - r') * 2 ^ 16 + (65535 - b')
-key_below s s' d d' r r' b b' hs hd hr hb = omega arith
-
-offset_below : (b0 b : ℤ) → negsuc 299 ≤ℤ b0 → b0 ≤ℤ b → unsigned_abs (b0 +ℤ pos 300) ≤ unsigned_abs (b +ℤ pos 300)
-offset_below b0 b low h = omega (arith, ints, abs_parts (b0 +ℤ pos 300), abs_parts (b +ℤ pos 300))
 
 -- the least depth is that of the first points
 first_depth : (c0 : ℤ) → pos 0 ≤ℤ c0 → pos (unsigned_abs c0) ≡ c0
 first_depth c0 from = omega (arith, ints, abs_parts c0)
-
-depth_below : (c0 : ℤ) (depth : ℕ) → pos 0 ≤ℤ c0 → c0 ≤ℤ pos depth → unsigned_abs c0 ≤ depth
-depth_below c0 depth from low = omega (arith, ints, abs_parts c0)
 
 pub wider : (height deep : ℕ) (shape : Shape) → IsInGrid height deep shape → IsInGrid 8192 63 shape
 wider height deep shape grid = record {
@@ -61,7 +40,7 @@ wider height deep shape grid = record {
   to_depth = omega (arith, ints, grid.depths, grid.to_depth);
 }
 
-first_point : (height median : ℕ) (shape : Shape) → IsInGrid height (deepest median) shape
+pub first_point : (height median : ℕ) (shape : Shape) → IsInGrid height (deepest median) shape
     → IsPoint height median shape.a0 shape.b0 (least_depth shape)
 first_point height median shape grid = record {
   slope_in = record { low = grid.from_slope; high = omega (arith, ints, grid.some_slope, grid.to_slope) };

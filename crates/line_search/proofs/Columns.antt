@@ -10,9 +10,10 @@ use Rattle.box_search.specs.declared.space.Shape.{Shape}
 use Rattle.line_quality.specs.Points.{middle_of, is_crossed, column_of}
 use Rattle.line_quality.specs.Scores.{weight_of, is_of, group_weight}
 use Rattle.line_quality.proofs.Scored.{first_or_none, in_its_column}
-use Rattle.line_search.specs.Shapes.{IsInside}
+use Rattle.line_counts.specs.Shapes.{IsInside}
 use Rattle.line_search.specs.Bounds.{most_weight, all_cross, sure_column, is_surely, most_in_column}
-use Rattle.line_search.proofs.Heights.{weight_below, between}
+use Rattle.line_counts.proofs.Growing.{between}
+use Rattle.line_search.proofs.Heights.{weight_below}
 
 -- what all lines of a shape cross, each line crosses
 crosses_each : (low h high : ℤ) (y0 y1 : ℕ) → low ≤ℤ h → h ≤ℤ high → (int_lt (pos y0) low && int_le high (pos y1)) ≡ true → (int_lt (pos y0) h && int_le h (pos y1)) ≡ true

@@ -1,45 +1,14 @@
 -- How near the lines of a shape pass to a box, and what the box can weigh for them.
-use Rattle.std.proofs.Common.{◌≡◌, ℕ, ◌+◌, ◌-◌, ◌*◌, ◌≤◌, min, ℤ, pos, negsuc, ◌+ℤ◌, ◌-ℤ◌, ◌≤ℤ◌, ◌<ℤ◌, unsigned_abs, arith, Option, Some, None}
-use Rattle.std.proofs.Math.Nat.{mul-le-mul}
+use Rattle.std.proofs.Common.{ℕ, ◌+◌, ◌≤◌, min, ℤ, pos, ◌+ℤ◌, ◌-ℤ◌, ◌≤ℤ◌, arith, Option, Some, None}
 use Rattle.std.proofs.lemmas.Int.{ints}
-use Rattle.std.specs.Int.{int_gap}
 use Rattle.layout_geom.specs.declared.rect.Rect.{Rect}
 use Rattle.box_search.specs.declared.space.Shape.{Shape}
-use Rattle.line_quality.specs.Points.{height_at, rise, middle_of, weight_at, foot_gap, deviation}
+use Rattle.line_quality.specs.Points.{height_at, middle_of, foot_gap, deviation}
 use Rattle.line_quality.specs.Scores.{weight_of}
-use Rattle.line_quality.specs.HeightLaws.{rise_grows}
-use Rattle.line_quality.specs.KeyLaws.{abs_parts}
-use Rattle.line_search.specs.Shapes.{IsInside, IsInGrid, least_depth}
-use Rattle.line_search.specs.Bounds.{lowest, highest, gap_to, distance, plain_distance, most_weight, plain_weight}
-use borrow.Author.Differences.{up, down}
-
-pub int_gap_is : (a b : ℤ) → int_gap a b ≡ (up b + down a) - (up a + down b)
-int_gap_is (pos a) (pos b) = omega arith
-int_gap_is (pos a) (negsuc b) = omega arith
-int_gap_is (negsuc a) (pos b) = omega arith
-int_gap_is (negsuc a) (negsuc b) = omega arith
-
--- a foot is at least as far from a line between two heights as from the heights
-gap_within : (low h high : ℤ) (y : ℕ) → low ≤ℤ h → h ≤ℤ high → int_gap (pos y) low + int_gap high (pos y) ≤ unsigned_abs (h -ℤ pos y)
-gap_within low h high y above below =
-    omega (arith, ints, int_gap_is (pos y) low, int_gap_is high (pos y), abs_parts (h -ℤ pos y))
-
-grows : (a b c d : ℤ) → a ≤ℤ b → c ≤ℤ d → (a +ℤ c) ≤ℤ (b +ℤ d)
-grows a b c d h k = omega (arith, ints)
-
-before : (a b : ℤ) → a <ℤ b → a ≤ℤ (b -ℤ pos 1)
-before a b h = omega (arith, ints)
-
--- a greater distance weighs less
-weights_fall : (e d : ℕ) → e ≤ d → weight_at d ≤ weight_at e
-weights_fall e d h = let squares : e * e ≤ d * d = mul-le-mul h h in omega arith
-
--- a line of the shape passes between the two heights
-pub between : (shape : Shape) (slope offset : ℤ) (depth : ℕ) → IsInside slope offset depth shape → (x : ℕ) → (height_at shape.a0 shape.b0 x ≤ℤ height_at slope offset x) × (height_at slope offset x ≤ℤ height_at (shape.a1 -ℤ pos 1) (shape.b1 -ℤ pos 1) x)
-between shape slope offset depth inside x = (
-  grows shape.b0 offset (rise shape.a0 x) (rise slope x) inside.from_offset (rise_grows shape.a0 slope x inside.from_slope),
-  grows offset (shape.b1 -ℤ pos 1) (rise slope x) (rise (shape.a1 -ℤ pos 1) x) (before offset shape.b1 inside.to_offset) (rise_grows slope (shape.a1 -ℤ pos 1) x (before slope shape.a1 inside.to_slope)),
-)
+use Rattle.line_counts.specs.Shapes.{IsInside, IsInGrid, least_depth}
+use Rattle.line_counts.specs.Plain.{lowest, highest, gap_to, plain_distance, plain_weight}
+use Rattle.line_counts.proofs.Growing.{gap_within, grows, before, weights_fall, between, gap_shrinks}
+use Rattle.line_search.specs.Bounds.{distance, most_weight}
 
 nearer : (a b c d e f : ℕ) → a + b ≤ e → c + d ≤ f → min (a + b) (c + d) ≤ min e f
 nearer a b c d e f h k = omega arith
@@ -57,11 +26,6 @@ weight_below shape slope offset depth inside (Some r) =
     (grows h (highest shape x) (pos depth) (shape.c1 -ℤ pos 1) line.1 (before (pos depth) shape.c1 inside.to_depth)) in
     weights_fall (distance shape r) (deviation slope offset depth r) (nearer _ _ _ _ _ _ line_gap descent_gap)
 weight_below shape slope offset depth inside None = omega arith
-
--- a part of an interval is at least as far from a foot
-gap_shrinks : (low low' high high' : ℤ) (y : ℕ) → low ≤ℤ low' → high' ≤ℤ high → int_gap (pos y) low + int_gap high (pos y) ≤ int_gap (pos y) low' + int_gap high' (pos y)
-gap_shrinks low low' high high' y above below =
-    omega (arith, ints, int_gap_is (pos y) low, int_gap_is high (pos y), int_gap_is (pos y) low', int_gap_is high' (pos y))
 
 -- a box can weigh no more than by the plain distance
 pub plain_above : (height deep : ℕ) (shape : Shape) → IsInGrid height deep shape → (o : Option Rect) → most_weight shape o ≤ plain_weight shape o

@@ -6,12 +6,10 @@ pub mod Columns
 pub mod Sums
 pub mod Singles
 pub mod Bounding
+pub mod Counted
 pub mod Ranges
 pub mod Steps
 pub mod Rounding
 pub mod Taking
 pub mod Rising
-pub mod Margins
-pub mod Gathered
-pub mod Few
 pub mod Unique

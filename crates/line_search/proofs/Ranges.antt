@@ -5,10 +5,10 @@ use Rattle.std.proofs.lemmas.Bool.Decides.{nat_tests}
 use Rattle.std.specs.Int.{int_gap, int_max, int_min, int_div_euclid}
 use Rattle.box_search.specs.declared.space.Shape.{Shape}
 use Rattle.line_quality.specs.Points.{height_at, IsSlope}
-use Rattle.line_search.specs.Shapes.{IsInGrid, whole_grid}
-use Rattle.line_search.specs.Bounds.{nearest_slope}
+use Rattle.line_counts.specs.Shapes.{IsInGrid, whole_grid}
+use Rattle.line_counts.specs.Plain.{nearest_slope}
 use Rattle.line_search.specs.Parts.{half}
-use Rattle.line_search.proofs.Heights.{int_gap_is}
+use Rattle.line_counts.proofs.Growing.{int_gap_is}
 use borrow.Author.Differences.{up, down}
 
 pub length_one : (low high : ℤ) → negsuc 9999 ≤ℤ low → low <ℤ high → high ≤ℤ pos 9999 → (IsTrue (nat_eq (of_z w32 (to_z w32 (of_z w32 high) -ℤ to_z w32 (of_z w32 low))) 1) → high ≡ low +ℤ pos 1) × (high ≡ low +ℤ pos 1 → IsTrue (nat_eq (of_z w32 (to_z w32 (of_z w32 high) -ℤ to_z w32 (of_z w32 low))) 1))
@@ -93,6 +93,15 @@ chosen_long x0 x1 y0 y1 z0 z1 gx gy gz some_x some_y some_z wide none_x gain_y g
     (λ short_z. absurd (wide (omega (arith, ints)) (omega (arith, ints)) (omega (arith, ints))))
     (λ long_z. absurd (omega (arith, ints, nothing, most_z, gain_z long_z))))
     (λ long_y. absurd (omega (arith, ints, nothing, most_y, gain_y long_y))))
+    (λ long. long)
+
+-- the offsets are more than one where they are no fewer than the depths, and there is one slope
+pub offsets_long : (a0 a1 b0 b1 c0 c1 slopes offsets depths : ℤ) → a0 <ℤ a1 → b0 <ℤ b1 → c0 <ℤ c1
+    → (a1 ≡ a0 +ℤ pos 1 → b1 ≡ b0 +ℤ pos 1 → c1 ≡ c0 +ℤ pos 1 → ⊥) → (a0 +ℤ slopes) ≡ a1 → (b0 +ℤ offsets) ≡ b1 → (c0 +ℤ depths) ≡ c1
+    → slopes ≤ℤ pos 1 → depths ≤ℤ offsets → (b0 +ℤ pos 2) ≤ℤ b1
+offsets_long a0 a1 b0 b1 c0 c1 slopes offsets depths some_a some_b some_c wide are_a are_b are_c one more =
+    by_lt_z b1 (b0 +ℤ pos 2)
+    (λ short. absurd (wide (omega (arith, ints)) (omega (arith, ints)) (omega (arith, ints))))
     (λ long. long)
 
 pub kept_in : (shape : Shape) → IsInGrid 8192 63 shape → (to_z w32 (of_z w32 shape.a0) ≡ shape.a0) × (to_z w32 (of_z w32 shape.a1) ≡ shape.a1) × (to_z w32 (of_z w32 shape.b0) ≡ shape.b0) × (to_z w32 (of_z w32 shape.b1) ≡ shape.b1) × (to_z w32 (of_z w32 shape.c0) ≡ shape.c0) × (to_z w32 (of_z w32 shape.c1) ≡ shape.c1)

@@ -8,7 +8,7 @@ use Rattle.box_search.specs.declared.space.Shape.{Shape}
 use Rattle.line_quality.specs.Points.{weight, middle_of, column_of}
 use Rattle.line_quality.specs.Scores.{is_of, group_of}
 use Rattle.line_search.specs.Problem.{GridProblem}
-use Rattle.line_search.specs.Shapes.{IsInside}
+use Rattle.line_counts.specs.Shapes.{IsInside}
 use Rattle.line_search.specs.declared.span.Span.{Span}
 use Rattle.line_search.specs.Bounds.{most_weight, weighing, most_together, stretch_of, HasWeighing}
 use Rattle.line_search.proofs.Stretches.{stretch_twice}

@@ -10,9 +10,10 @@ use Rattle.box_search.specs.declared.space.Shape.{Shape}
 use Rattle.line_quality.specs.Points.{height_at, middle_of, weight_at, weight, foot_gap, column_of}
 use Rattle.line_quality.specs.Scores.{weight_of, is_of, group_weight, IsScore}
 use Rattle.line_quality.specs.KeyLaws.{abs_parts}
-use Rattle.line_search.specs.Shapes.{IsSingle, least_depth}
-use Rattle.line_search.specs.Bounds.{gap_to, most_weight, sure_column, is_surely, most_in_column, nearest_slope, HasMost}
-use Rattle.line_search.proofs.Heights.{int_gap_is}
+use Rattle.line_counts.specs.Shapes.{IsSingle, least_depth}
+use Rattle.line_counts.specs.Plain.{gap_to, nearest_slope}
+use Rattle.line_search.specs.Bounds.{most_weight, sure_column, is_surely, most_in_column, HasMost}
+use Rattle.line_counts.proofs.Growing.{int_gap_is}
 
 one_less : (a b : ℤ) → b ≡ a +ℤ pos 1 → b -ℤ pos 1 ≡ a
 one_less a b is = omega (arith, ints)

@@ -14,7 +14,7 @@ use Rattle.line_search.specs.declared.span.Span.{Span}
 use Rattle.line_search.specs.Lines.{deepest}
 use Rattle.line_search.specs.Problem.{GridProblem, grid_numbers, HasScore, HasPointOfKey, IsGridKey}
 use Rattle.line_search.specs.ProblemLaws.{same_grid_problem}
-use Rattle.line_search.specs.Shapes.{IsInside, PointLiesIn, IsInGrid, IsSingle, whole_grid, least_depth}
+use Rattle.line_counts.specs.Shapes.{IsInside, PointLiesIn, IsInGrid, IsSingle, whole_grid, least_depth}
 use Rattle.line_search.specs.Bounds.{IsOver, HasWeighing, IsGridNode, FitsGrid}
 use Rattle.line_search.specs.Parts.{half, AreHalves, HasNoPoint, IsGridSplit, IsPointAdmissible}
 use Rattle.line_search.specs.GridLaws.{admitted_here, of_grid}

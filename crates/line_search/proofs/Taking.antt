@@ -6,7 +6,9 @@ use Rattle.std.proofs.lemmas.Map.Views.{any-filter_same}
 use Rattle.std.proofs.lemmas.List.Elements.{All-filter, All-head, All-tail, All-weaker, All-contains_itself, at_from_Contains}
 use Rattle.std.proofs.lemmas.List.Folds.{list_any-from_Any}
 use Rattle.std.proofs.lemmas.List.Filters.{length-filter_both}
+use Rattle.std.proofs.lemmas.List.Sorted.{IsPermutation-filter_both}
 use Rattle.std.specs.List.{filter, sum_by, list_any}
+use Rattle.std.specs.List.Sorted.{IsPermutation}
 use Rattle.layout_geom.specs.declared.rect.Rect.{Rect}
 use Rattle.box_search.specs.Problems.{on_numbers}
 use Rattle.box_search.specs.Search.{IsGreatestKey}
@@ -70,7 +72,7 @@ pub record IsWinner (problem : GridProblem) (key : ℕ) (s b : ℤ) (d score : �
   pub is : line_key score s b d ≡ key
 
 -- what holds of a point holds of the same one
-same_place : (P : ℤ → ℤ → ℕ → Type 0) (s b s' b' : ℤ) (d d' : ℕ) → s ≡ s' → b ≡ b' → d ≡ d' → P s b d → P s' b' d'
+pub same_place : (P : ℤ → ℤ → ℕ → Type 0) (s b s' b' : ℤ) (d d' : ℕ) → s ≡ s' → b ≡ b' → d ≡ d' → P s b d → P s' b' d'
 same_place P s b s' b' d d' same_s same_b same_d holds =
     subst (λ (z : ℤ). P z b' d') same_s (subst (λ (z : ℤ). P s z d') same_b (subst (λ (n : ℕ). P s b n) same_d holds))
 
@@ -94,7 +96,7 @@ winner_is problem key high answer some s b d decodes score in_column scored =
       is = subst (λ (n : ℕ). line_key n s b d ≡ key) one key_here;
     }
 
-pub admits : (problem : GridProblem) (slope offset : ℤ) (depth score : ℕ) → IsAdmissibleIn problem slope offset depth score → IsGridKey (grid_numbers problem) (line_key score slope offset depth)
+admits : (problem : GridProblem) (slope offset : ℤ) (depth score : ℕ) → IsAdmissibleIn problem slope offset depth score → IsGridKey (grid_numbers problem) (line_key score slope offset depth)
 admits problem slope offset depth score point =
     on_numbers grid_numbers (HasPointOfKey (line_key score slope offset depth)) problem (record { slope = slope; offset = offset; depth = depth; score = score; has_key = refl; admissible = point })
 
@@ -135,7 +137,7 @@ filter_agrees p q (x ∷ xs) all =
     let others : filter p xs ≡ filter q xs = filter_agrees p q xs (All-tail (λ (y : ℕ). p y ≡ q y) x xs all) in
     rw (here, others) refl
 
-pub same_number : (x y : ℕ) → (x == y) ≡ true → x ≡ y
+same_number : (x y : ℕ) → (x == y) ≡ true → x ≡ y
 same_number x y e = grind (arith, nat_tests)
 
 itself : (x : ℕ) → (x == x) ≡ true
@@ -167,6 +169,13 @@ fewer_are problem key score winner division taken =
     let p : ℕ → Bool = λ position. is_of winner.slope winner.offset winner.depth problem.gutters winner.column (slice_get problem.boxes position) in
     let both : length (filter p problem.alive) + length (filter (λ (position : ℕ). not (p position)) problem.alive) ≡ length problem.alive = length-filter_both p (λ (position : ℕ). not (p position)) (λ _. refl) problem.alive in
     omega (arith, both, ap length taken.members, ap length taken.others, members_some problem key score winner division taken)
+
+-- the members and the others are all
+pub divided_is : (problem : GridProblem) (key score : ℕ) (winner : Winner) (division : Division) → IsTaken problem key score winner division
+    → IsPermutation problem.alive (division.members ++ division.others)
+divided_is problem key score winner division taken =
+    let p : ℕ → Bool = λ position. is_of winner.slope winner.offset winner.depth problem.gutters winner.column (slice_get problem.boxes position) in
+    rw (taken.members, taken.others) (IsPermutation-filter_both p (λ (position : ℕ). not (p position)) (λ _. refl) problem.alive)
 
 -- the decoded numbers fit their types
 decodes_back : (problem : GridProblem) (key : ℕ) → problem.height ≤ 8192 → IsGridAnswer problem key → 0 < key → (s b : ℤ) (d : ℕ)

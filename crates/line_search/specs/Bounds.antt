@@ -1,50 +1,31 @@
 -- What the lines of a shape can score at most.
-use Rattle.std.specs.Prelude.{take, drop, ◌-◌, ◌≡◌, ℕ, ◌+◌, ◌≤◌, min, ℤ, pos, ◌+ℤ◌, ◌-ℤ◌, List, length, Option, Some, None}
+use Rattle.std.specs.Prelude.{take, drop, ◌-◌, ◌≡◌, ℕ, ◌≤◌, min, ℤ, pos, ◌+ℤ◌, ◌-ℤ◌, List, length, Option, Some, None}
 use Rattle.std.specs.Prelude.{slice_get, Bool, false, ◌&&◌, ◌==◌, int_lt, int_le, nat_le, nat_lt}
-use Rattle.std.specs.Int.{int_gap, int_min, int_max}
 use Rattle.std.specs.List.{sum_by, count_by, filter}
 use Rattle.layout_geom.specs.declared.rect.Rect.{Rect}
 use Rattle.box_search.specs.declared.space.Shape.{Shape}
 use Rattle.box_search.specs.declared.space.Node.{Node}
 use Rattle.box_search.specs.Problems.{OfProblem}
-use Rattle.line_quality.specs.Points.{height_at, middle_of, weight_at}
+use Rattle.line_quality.specs.Points.{middle_of, weight_at}
 use Rattle.line_quality.specs.Scores.{IsGreatest}
 use Rattle.line_quality.specs.Keys.{line_key}
 use Rattle.line_search.specs.declared.span.Span.{Span}
 use Rattle.line_search.specs.Problem.{GridProblem, grid_numbers, HasScore}
 use Rattle.line_search.specs.Lines.{deepest}
-use Rattle.line_search.specs.Shapes.{IsInside, IsInGrid, IsSingle, least_depth}
+use Rattle.line_counts.specs.Shapes.{IsInside, IsInGrid, IsSingle, least_depth}
+use Rattle.line_counts.specs.Plain.{lowest, highest, gap_to, plain_key}
 
--- no line of the shape is lower, or higher, at a column
-abbrev pub lowest : Shape → ℕ → ℤ
-lowest shape x = height_at shape.a0 shape.b0 x
-
-abbrev pub highest : Shape → ℕ → ℤ
-highest shape x = height_at (shape.a1 -ℤ pos 1) (shape.b1 -ℤ pos 1) x
-
--- how far the foot of a box is from the interval between two heights
-abbrev pub gap_to : ℤ → ℤ → Rect → ℕ
-gap_to low high r = int_gap (pos r.y1) low + int_gap high (pos r.y1)
-
--- how far it is from where the baselines of the shape pass, or from where the lines of their descenders do, if that is nearer
+-- how far the foot of a box is from where the baselines of the shape pass, or from where the lines of their descenders do, if that is
+-- nearer
 abbrev pub distance : Shape → Rect → ℕ
 distance shape r = min
     (gap_to (lowest shape (middle_of r)) (highest shape (middle_of r)) r)
     (gap_to (lowest shape (middle_of r) +ℤ shape.c0) (highest shape (middle_of r) +ℤ (shape.c1 -ℤ pos 1)) r)
 
--- how far it is from all between the highest baseline and the lowest line of descenders
-abbrev pub plain_distance : Shape → Rect → ℕ
-plain_distance shape r = gap_to (lowest shape (middle_of r)) (highest shape (middle_of r) +ℤ (shape.c1 -ℤ pos 1)) r
-
 -- the most that a box can weigh for a line of the shape
 abbrev pub most_weight : Shape → Option Rect → ℕ
 most_weight shape (Some r) = weight_at (distance shape r)
 most_weight shape None = 0
-
--- the most that it can weigh by the plain distance
-abbrev pub plain_weight : Shape → Option Rect → ℕ
-plain_weight shape (Some r) = weight_at (plain_distance shape r)
-plain_weight shape None = 0
 
 -- all lines of the shape cross the gutter
 abbrev pub all_cross : Shape → Rect → Bool
@@ -73,19 +54,9 @@ module _ (shape : Shape) (boxes : List Rect) where
   most_in_column gutters positions in_column = most_together
       (filter (λ position. is_surely shape gutters in_column (slice_get boxes position)) positions)
 
--- the slope of the shape that is nearest to 0, which has the least rank
-abbrev pub nearest_slope : Shape → ℤ
-nearest_slope shape = int_max shape.a0 (int_min (shape.a1 -ℤ pos 1) (pos 0))
-
 -- the greatest of the sums of the columns, and the least column that has it
 abbrev pub HasMost : Shape → List Rect → List Rect → List ℕ → ℕ → ℕ → Type 0
 HasMost shape boxes gutters positions most in_column = IsGreatest (most_in_column shape boxes gutters positions) most in_column
-
--- the bound that knows no columns, and nothing of the white between a baseline and its descenders
-abbrev pub plain_bound : GridProblem → Shape → ℕ
-plain_bound problem shape = line_key
-    (sum_by (λ position. plain_weight shape (slice_get problem.boxes position)) problem.alive)
-    (nearest_slope shape) shape.b0 (least_depth shape)
 
 -- no scored point of the shape has a greater key
 abbrev pub IsOver : GridProblem → Shape → ℕ → Type 0
@@ -96,7 +67,7 @@ IsOver problem shape bound = (slope offset : ℤ) (depth score : ℕ) → HasSco
 pub record IsBound (problem : GridProblem) (shape : Shape) (bound : ℕ) : Type 0 where
   pub over : IsOver problem shape bound
   pub single : IsSingle shape → (score : ℕ) × HasScore problem shape.a0 shape.b0 (least_depth shape) score × (line_key score shape.a0 shape.b0 (least_depth shape) ≡ bound)
-  pub wide : (IsSingle shape → ⊥) → bound ≤ plain_bound problem shape
+  pub wide : (IsSingle shape → ⊥) → bound ≤ plain_key problem.boxes problem.alive shape
 
 -- a stretch of a list
 abbrev pub stretch_of : {X : Type 0} → Span → List X → List X

@@ -11,7 +11,7 @@ use Rattle.line_search.specs.Lines.{IsPoint}
 use Rattle.line_search.specs.declared.span.Span.{Span}
 use Rattle.line_search.specs.Problem.{GridProblem, grid_numbers, HasPointOfKey, IsGridKey}
 use Rattle.line_search.specs.ProblemLaws.{same_grid_problem}
-use Rattle.line_search.specs.Shapes.{IsInside, PointLiesIn}
+use Rattle.line_counts.specs.Shapes.{IsInside, PointLiesIn}
 use Rattle.line_search.specs.Bounds.{FitsGrid}
 
 -- an admitted key is one of the problem that the numbers stand for

@@ -2,9 +2,8 @@
 pub mod Lines
 pub mod Problem
 pub mod ProblemLaws
-pub mod Shapes
 pub mod Bounds
 pub mod Parts
 pub mod GridLaws
-pub mod Windows
+pub mod Pages
 pub mod Taken

@@ -10,7 +10,7 @@ use Rattle.line_search.specs.declared.parts.Range.{Range}
 use Rattle.line_search.specs.declared.parts.Range.TheVariants.{Slopes, Offsets, Depths}
 use Rattle.line_search.specs.declared.span.Span.{Span}
 use Rattle.line_search.specs.Problem.{GridProblem, HasPointOfKey}
-use Rattle.line_search.specs.Shapes.{PointLiesIn, IsSingle, least_depth}
+use Rattle.line_counts.specs.Shapes.{PointLiesIn, IsSingle, least_depth}
 
 -- the middle of a range, rounded towards the lesser number
 abbrev pub half : ℤ → ℤ → ℤ

@@ -1,8 +1,9 @@
 //! What all lines of a shape have in common: how near they pass to a box, and which gutters they cross.
 ghost use Rattle.std.specs.Prelude.{◌≡◌, ◌+◌, ◌≤◌, ◌↔◌, IsTrue, Some, pos, negsuc, ◌+ℤ◌, ◌≤ℤ◌, ◌<ℤ◌};
 ghost use Rattle.std.specs.Int.{int_gap};
+ghost use Rattle.line_counts.specs.Plain;
 ghost use Rattle.line_search.specs.Bounds;
-ghost use Rattle.line_search.specs.Shapes.{IsInGrid, IsSingle};
+ghost use Rattle.line_counts.specs.Shapes.{IsInGrid, IsSingle};
 
 use box_search::Shape;
 use layout_geom::Rect;
@@ -30,7 +31,7 @@ pub(crate) fn is_single(shape: &Shape) -> bool
 /// The slope of a shape that is nearest to 0.
 pub(crate) fn nearest_slope(shape: &Shape) -> i8
     requires { IsInGrid MAX_SIDE MAX_DEPTH shape.now }
-    ensures { result ≡ Bounds.nearest_slope shape.now }
+    ensures { result ≡ Plain.nearest_slope shape.now }
 {
     shape.a0.max((shape.a1 - 1).min(0)) as i8
 }
@@ -38,8 +39,8 @@ pub(crate) fn nearest_slope(shape: &Shape) -> i8
 /// The least and the greatest height of the lines of the shape at a column.
 fn heights(shape: &Shape, anchor: u16) -> (i32, i32)
     requires { IsInGrid MAX_SIDE MAX_DEPTH shape.now }
-    ensures lowest { result.0 ≡ Bounds.lowest shape.now anchor }
-    ensures highest { result.1 ≡ Bounds.highest shape.now anchor }
+    ensures lowest { result.0 ≡ Plain.lowest shape.now anchor }
+    ensures highest { result.1 ≡ Plain.highest shape.now anchor }
     ensures low { (negsuc 49999 ≤ℤ result.0) × (result.0 ≤ℤ pos 50000) }
     ensures high { (negsuc 49999 ≤ℤ result.1) × (result.1 ≤ℤ pos 50000) }
 {

@@ -8,7 +8,6 @@ ghost use Rattle.line_search.specs.Lines.{AreLinesOf};
 use crate::characters::characters;
 use crate::grid::Grid;
 use crate::line::Lines;
-use crate::windows::{first_windows, greatest_key, searched_again};
 use box_search::Searcher;
 use components::Kept;
 use layout_geom::Rects;
@@ -17,7 +16,7 @@ use line_quality::MAX_GUTTERS;
 use std::alloc::Global;
 
 /// The rectangles, in a list of their own.
-fn copy_of(alloc: Global, rects: &Rects) -> Result<Rects, OutOfMemory>
+pub(crate) fn copy_of(alloc: Global, rects: &Rects) -> Result<Rects, OutOfMemory>
     requires { length rects.now ≤ 60000 }
     ensures { IfOk result (λ copy. copy ≡ rects.now) }
 {
@@ -54,17 +53,15 @@ pub fn lines<F: Searcher<Grid>>(
 {
     let alive = characters(alloc, kept)?;
     let boxes = copy_of(alloc, &kept.boxes)?;
-    let mut grid = Grid::new(boxes, alive, copy_of(alloc, gutters)?, height, kept.median);
-    let mut windows = first_windows(alloc, &mut grid, searcher)?;
+    let walls = copy_of(alloc, gutters)?;
+    let mut grid = Grid::with_keys(alloc, boxes, alive, walls, height, kept.median)?;
     let mut lines = Lines::new(alloc);
     loop {
-        let key = greatest_key(windows.as_slice());
+        grid.sharpen();
+        let key = searcher.best(alloc, &grid)?;
         if key == 0 {
             return Ok(lines);
         }
-        let line = grid.take_line(alloc, key)?;
-        let members = line.members.as_slice();
-        windows = searched_again(alloc, &mut grid, windows.as_slice(), members, searcher)?;
-        lines.push(line)?;
+        lines.push(grid.take_line(alloc, key)?)?;
     }
 }

@@ -1,21 +1,24 @@
 //! The lines that a page may have, as a space to be searched.
+ghost use Rattle.std.specs.Prelude.{◌≡◌};
+ghost use Rattle.line_search.specs.Lines;
+
 use crate::bound::{is_single, nearest_slope};
 use crate::line::Line;
-use crate::members::{Division, Winner, divide, least_round};
+use crate::living::{Lists, Living};
+use crate::members::{Division, Winner, divide, farthest, least_round};
 use crate::near::near;
 use crate::parts::{halves, listed};
-use crate::rows::farthest;
 use crate::span::Span;
 use box_search::{Node, Shape, Space, Step};
 use layout_geom::{Numbers, Rects};
 use layout_limits::{MAX_SIDE, OutOfMemory};
+use line_counts::{Counts, Keys, fits_table};
 use line_quality::{
     LEAST_OFFSET, LEAST_SLOPE, MAX_DEPTH, MAX_GUTTERS, MAX_SLOPE, OFFSET_MARGIN, Score, line_key,
     point_of, score_at,
 };
 use std::alloc::Global;
 use std::marker::Model;
-use std::mem;
 
 /// The lines that a page may have, by their slopes, offsets and depths, to be searched for the one of greatest
 /// key: a search for baselines by branch and bound, after Breuel (2002).
@@ -26,23 +29,19 @@ use std::mem;
 /// `LEAST_SCORE`.
 #[derive(Drop)]
 pub struct Grid {
-    boxes: Rects,
-    alive: Numbers,
-    gutters: Rects,
-    height: u16,
+    living: Living,
     median: u16,
-    widest: u16,
 }
 
 impl Model for Grid {
-    ghost use Rattle.line_search.specs.Problem.{GridProblem, IsWithinLimits};
+    ghost use Rattle.line_search.specs.Problem.{GridProblem};
+    ghost use Rattle.line_search.specs.Pages.{page_of, problem_of, IsKept};
 
     ghost Value = { GridProblem };
 
-    ghost view = { λ grid. record { height = grid.height; median = grid.median; boxes = grid.boxes; alive = grid.alive; gutters = grid.gutters } };
+    ghost view = { λ grid. problem_of (page_of grid.living) grid.median };
 
-    ghost invariant = { λ grid. IsWithinLimits
-        (record { height = grid.height; median = grid.median; boxes = grid.boxes; alive = grid.alive; gutters = grid.gutters }) };
+    ghost invariant = { λ grid. IsKept grid.living grid.median };
 }
 
 /// The least score of a line: less than three boxes do not make one.
@@ -50,6 +49,16 @@ pub const LEAST_SCORE: u32 = 60;
 
 /// The least key of a line whose score is enough.
 const LEAST_KEY: u64 = (LEAST_SCORE as u64) << 29;
+
+/// Fewer boxes weigh less than a line.
+const LEAST_MEMBERS: usize = 3;
+
+/// The greatest depth of the lines of a page whose boxes have this median height.
+fn deepest(median: u16) -> u8
+    ensures { result ≡ Lines.deepest median }
+{
+    (median / 3).min(MAX_DEPTH as u16) as u8
+}
 
 /// A line that is taken out of a grid.
 #[derive(Drop)]
@@ -64,9 +73,12 @@ impl Grid {
     ghost use Rattle.layout_geom.specs.declared.rect.Rect.{Rect};
     ghost use Rattle.layout_geom.specs.Rectangles.{Encloses};
     ghost use Rattle.box_search.specs.Search.{IsGreatestKey};
-    ghost use Rattle.line_search.specs.Lines.{deepest, IsBestLine, without};
+    ghost use Rattle.line_counts.specs.KeyTables.{IsShapeBound};
+    ghost use Rattle.line_search.specs.Lines;
+    ghost use Rattle.line_search.specs.Lines.{IsBestLine, without};
     ghost use Rattle.line_search.specs.Problem.{grid_numbers, IsGridKey};
-    ghost use Rattle.line_search.specs.Shapes.{IsInGrid};
+    ghost use Rattle.line_search.specs.Pages.{living_page};
+    ghost use Rattle.line_counts.specs.Shapes.{IsInGrid};
     ghost use Rattle.line_search.specs.Bounds.{IsOver, HasWeighing, IsGridNode};
     ghost use Rattle.line_search.specs.Parts.{HasNoPoint};
     ghost use Rattle.line_search.specs.Taken.{IsTaken};
@@ -88,66 +100,83 @@ impl Grid {
         ensures gutters { result.gutters ≡ gutters }
     {
         let widest = farthest(boxes.as_slice());
-        Grid {
+        let lists = Lists {
+            height,
             boxes,
             alive,
             gutters,
-            height,
-            median,
             widest,
+        };
+        Grid {
+            living: Living::Plain(lists),
+            median,
         }
     }
 
-    /// The boxes of the page.
-    pub(crate) fn boxes(&self) -> &Rects
-        ensures { result.now ≡ self.now.boxes }
+    /// The same lines as those of `new`, with a table of keys where the page has a line and its table is small enough. The one
+    /// refusal is want of memory.
+    pub(crate) fn with_keys(
+        alloc: Global,
+        boxes: Rects,
+        alive: Numbers,
+        gutters: Rects,
+        height: u16,
+        median: u16,
+    ) -> Result<Grid, OutOfMemory>
+        requires low { 1 ≤ height }
+        requires high { height ≤ MAX_SIDE }
+        requires few_boxes { length boxes ≤ 60000 }
+        requires few_alive { length alive ≤ 60000 }
+        requires few_gutters { length gutters ≤ MAX_GUTTERS }
+        requires positions { All (λ position. position < length boxes) alive }
+        ensures height { IfOk result (λ grid. grid.height ≡ height) }
+        ensures median { IfOk result (λ grid. grid.median ≡ median) }
+        ensures boxes { IfOk result (λ grid. grid.boxes ≡ boxes) }
+        ensures alive { IfOk result (λ grid. grid.alive ≡ alive) }
+        ensures gutters { IfOk result (λ grid. grid.gutters ≡ gutters) }
     {
-        &self.boxes
+        if alive.len() < LEAST_MEMBERS || !fits_table(height, &gutters) {
+            return Ok(Grid::new(boxes, alive, gutters, height, median));
+        }
+        let counts = Counts::new(alloc, boxes, alive, gutters, height)?;
+        let keys = Keys::new(alloc, counts, LEAST_SCORE, deepest(median))?;
+        Ok(Grid {
+            living: Living::Counted(keys),
+            median,
+        })
     }
 
-    /// The height of the page.
-    pub(crate) fn height(&self) -> u16
-        ensures { result ≡ self.now.height }
+    /// Makes ready for a search, so that it opens few shapes. The lines stay as they are.
+    pub(crate) fn sharpen(&mut self)
+        ensures { self.new ≡ self.old }
     {
-        self.height
+        self.living.sharpen();
     }
 
-    /// The greatest depth of the page's lines.
-    pub(crate) fn deepest(&self) -> u8
-        ensures { result ≡ deepest self.now.median }
+    /// All positions of the boxes that are alive.
+    fn all(&self) -> Span
+        ensures from { result.from ≡ 0 }
+        ensures to { result.to ≡ length self.now.alive }
     {
-        (self.median / 3).min(MAX_DEPTH as u16) as u8
-    }
-
-    /// The positions of the boxes that are alive.
-    pub(crate) fn alive(&self) -> &Numbers
-        ensures value { result.now ≡ self.now.alive }
-        ensures few { length result.now ≤ 60000 }
-        ensures positions { All (λ position. position < length self.now.boxes) result.now }
-    {
-        &self.alive
-    }
-
-    /// Has others of the boxes alive from now on, and gives back those that were.
-    pub(crate) fn replace_alive(&mut self, alive: Numbers) -> Numbers
-        requires few { length alive ≤ 60000 }
-        requires positions { All (λ position. position < length self.old.boxes) alive }
-        ensures before { result ≡ self.old.alive }
-        ensures after { self.new ≡ record self.old { alive = alive } }
-    {
-        mem::replace(&mut self.alive, alive)
+        Span {
+            from: 0,
+            to: self.living.alive().len() as u32,
+        }
     }
 
     /// The node of a shape. The stretch has at least the positions of the boxes that can weigh something for
     /// its lines.
     fn node_of(&self, alloc: Global, shape: Shape, span: Span) -> Result<Node<Span>, OutOfMemory>
-        requires in_grid { IsInGrid self.now.height (deepest self.now.median) shape }
+        requires in_grid { IsInGrid self.now.height (Lines.deepest self.now.median) shape }
         requires weighing { HasWeighing self.now shape span }
         ensures fitting { IfOk result (λ node. IsGridNode node self.now) }
         ensures shape { IfOk result (λ node. node.shape ≡ shape) }
     {
-        let positions = &self.alive.as_slice()[span.from as usize..span.to as usize];
-        let near = near(alloc, &shape, &self.boxes, &self.gutters, positions)?;
+        let boxes = self.living.boxes();
+        let alive = self.living.alive();
+        let gutters = self.living.gutters();
+        let positions = &alive.as_slice()[span.from as usize..span.to as usize];
+        let near = near(alloc, &shape, boxes, gutters, positions)?;
         Ok(Node {
             shape,
             bound: line_key(
@@ -163,6 +192,37 @@ impl Grid {
         })
     }
 
+    /// The node of a shape with the bound that the table of keys gives, unless it has no admissible point.
+    fn counted_node(&self, shape: Shape, bound: u64) -> Option<Node<Span>>
+        requires in_grid { IsInGrid self.now.height (Lines.deepest self.now.median) shape }
+        requires bound { IsShapeBound (living_page self.now) LEAST_SCORE shape bound }
+        ensures fitting { IfSome result (λ node. IsGridNode node self.now) }
+        ensures shape { IfSome result (λ node. node.shape ≡ shape) }
+        ensures bound { IfSome result (λ node. node.bound ≡ bound) }
+        ensures none { IfNone result (HasNoPoint self.now shape) }
+    {
+        if bound < LEAST_KEY {
+            return None;
+        }
+        Some(Node {
+            shape,
+            bound,
+            work: self.all(),
+        })
+    }
+
+    /// The node of a shape by the table of keys, where there is a table and the shape has an admissible point by it.
+    fn known_node(&self, shape: Shape) -> Option<Node<Span>>
+        requires { IsInGrid self.now.height (Lines.deepest self.now.median) shape }
+        ensures fitting { IfSome result (λ node. IsGridNode node self.now) }
+        ensures shape { IfSome result (λ node. node.shape ≡ shape) }
+    {
+        match self.living.bound(&shape) {
+            Some(bound) => self.counted_node(shape, bound),
+            None => None,
+        }
+    }
+
     /// The node of a part of a shape, unless it has no admissible point.
     fn part(
         &self,
@@ -171,7 +231,7 @@ impl Grid {
         span: Span,
         limit: u64,
     ) -> Result<Option<Node<Span>>, OutOfMemory>
-        requires in_grid { IsInGrid self.now.height (deepest self.now.median) shape }
+        requires in_grid { IsInGrid self.now.height (Lines.deepest self.now.median) shape }
         requires weighing { HasWeighing self.now shape span }
         requires over { IsOver self.now shape limit }
         ensures fitting { IfOk result (λ part. IfSome part (λ node. IsGridNode node self.now)) }
@@ -179,6 +239,9 @@ impl Grid {
         ensures bound { IfOk result (λ part. IfSome part (λ node. node.bound ≤ limit)) }
         ensures none { IfOk result (λ part. IfNone part (HasNoPoint self.now shape)) }
     {
+        if let Some(bound) = self.living.bound(&shape) {
+            return Ok(self.counted_node(shape, bound.min(limit)));
+        }
         let node = self.node_of(alloc, shape, span)?;
         let bound = node.bound.min(limit);
         if bound < LEAST_KEY {
@@ -195,21 +258,17 @@ impl Grid {
         ensures { IfOk result (λ taken. IsTaken self.now key taken.score taken.winner taken.division) }
     {
         let (slope, offset, depth) = point_of(key);
-        let Score { score, column } = score_at(
-            slope,
-            offset,
-            depth,
-            &self.boxes,
-            &self.alive,
-            &self.gutters,
-        );
+        let boxes = self.living.boxes();
+        let alive = self.living.alive();
+        let gutters = self.living.gutters();
+        let Score { score, column } = score_at(slope, offset, depth, boxes, alive, gutters);
         let winner = Winner {
             slope,
             offset,
             depth,
             column,
         };
-        let division = divide(alloc, &winner, &self.boxes, &self.alive, &self.gutters)?;
+        let division = divide(alloc, &winner, boxes, alive, gutters)?;
         Ok(Taken {
             winner,
             score,
@@ -233,13 +292,14 @@ impl Grid {
             score,
             division,
         } = self.best_line(alloc, key)?;
-        let bbox = least_round(self.boxes.as_slice(), division.members.as_slice());
-        self.alive = division.others;
+        let Division { members, others } = division;
+        let bbox = least_round(self.living.boxes().as_slice(), members.as_slice());
+        self.living.take(members.as_slice(), others);
         Ok(Line {
             slope: winner.slope,
             offset: winner.offset,
             depth: winner.depth,
-            members: division.members,
+            members,
             bbox,
             score,
         })
@@ -249,9 +309,9 @@ impl Grid {
 impl Space for Grid {
     ghost use Rattle.std.specs.Prelude.{◌≡◌, IfOk, IfSome, IsSome};
     ghost use Rattle.box_search.specs.Search.{IsRootOf, IsStepOf};
-    ghost use Rattle.line_search.specs.Lines.{deepest};
+    ghost use Rattle.line_search.specs.Lines;
     ghost use Rattle.line_search.specs.Problem.{grid_numbers, IsGridKey};
-    ghost use Rattle.line_search.specs.Shapes.{PointLiesIn, whole_grid};
+    ghost use Rattle.line_counts.specs.Shapes.{PointLiesIn, whole_grid};
     ghost use Rattle.line_search.specs.Bounds.{FitsGrid};
     ghost use Rattle.line_search.specs.Parts.{IsGridStep};
     ghost use Rattle.line_search.specs.GridLaws.{grid_positive, grid_bounded};
@@ -274,21 +334,20 @@ impl Space for Grid {
         ensures root { let p = grid_numbers self.now in IfOk result (IsRootOf (IsGridKey p) PointLiesIn (FitsGrid p)) }
         // There always is one, and its shape is the whole grid.
         ensures always { IfOk result (λ root. IsSome root) }
-        ensures whole { IfOk result (λ root. IfSome root (λ node. node.shape ≡ whole_grid self.now.height (deepest self.now.median))) }
+        ensures whole { IfOk result (λ root. IfSome root (λ node. node.shape ≡ whole_grid self.now.height (Lines.deepest self.now.median))) }
     {
         let shape = Shape {
             a0: LEAST_SLOPE as i32,
             a1: MAX_SLOPE as i32 + 1,
             b0: LEAST_OFFSET as i32,
-            b1: self.height as i32 + OFFSET_MARGIN as i32 + 1,
+            b1: self.living.height() as i32 + OFFSET_MARGIN as i32 + 1,
             c0: 0,
-            c1: self.deepest() as i32 + 1,
+            c1: deepest(self.median) as i32 + 1,
         };
-        let all = Span {
-            from: 0,
-            to: self.alive.len() as u32,
-        };
-        let node = self.node_of(alloc, shape, all)?;
+        if let Some(node) = self.known_node(shape) {
+            return Ok(Some(node));
+        }
+        let node = self.node_of(alloc, shape, self.all())?;
         Ok(Some(node))
     }
 
@@ -303,7 +362,7 @@ impl Space for Grid {
             }
             return Ok(Step::Settled(node.bound));
         }
-        let (lower, upper) = halves(&node.shape, self.widest);
+        let (lower, upper) = halves(&node.shape, self.living.cut(&node.shape));
         let lower = self.part(alloc, lower, node.work, node.bound)?;
         let upper = self.part(alloc, upper, node.work, node.bound)?;
         Ok(Step::Split(listed(alloc, lower, upper)?))

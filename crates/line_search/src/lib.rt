@@ -8,14 +8,13 @@ mod greedy;
 mod grid;
 mod law;
 mod line;
+mod living;
 mod members;
 mod near;
 mod parts;
-mod rows;
 mod span;
 #[cfg(test)]
 mod tests;
-mod windows;
 
 pub use greedy::lines;
 pub use grid::{Grid, LEAST_SCORE};

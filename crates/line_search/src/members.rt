@@ -3,11 +3,12 @@ ghost use Rattle.std.specs.Prelude.{◌≡◌, ◌<◌, ◌≤◌, IfOk, Some, l
 ghost use Rattle.std.specs.List.{filter};
 ghost use Rattle.layout_geom.specs.declared.rect.Rect.{Rect};
 ghost use Rattle.layout_geom.specs.Rectangles.{Encloses};
+ghost use Rattle.line_quality.specs.Points.{middle_of};
 ghost use Rattle.line_quality.specs.Scores.{group_of, is_of};
 ghost use Rattle.line_search.specs.Lines.{IsLeastRound};
 
 use layout_geom::{Numbers, Rect, Rects};
-use layout_limits::OutOfMemory;
+use layout_limits::{MAX_SIDE, OutOfMemory};
 use line_quality::{MAX_GUTTERS, column, middle, weight};
 use std::alloc::Global;
 
@@ -87,4 +88,16 @@ pub(crate) fn least_round(boxes: &[Rect], positions: &[u32]) -> Rect
         round = round.hull(&boxes[*position as usize]);
     }
     round
+}
+
+/// The farthest middle of a box from the left, 0 where there is no box.
+pub(crate) fn farthest(boxes: &[Rect]) -> u16
+    ensures farthest { All (λ rect. middle_of rect ≤ result) boxes.now }
+    ensures small { result < MAX_SIDE }
+{
+    let mut farthest = 0;
+    for rect in boxes {
+        farthest = middle(rect).max(farthest);
+    }
+    farthest
 }

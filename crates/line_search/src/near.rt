@@ -4,7 +4,7 @@ ghost use Rattle.std.specs.List.{filter, count_by};
 ghost use Rattle.line_quality.specs.Points.{middle_of};
 ghost use Rattle.line_search.specs.Bounds;
 ghost use Rattle.line_search.specs.Bounds.{weighing, stretch_of, HasMost};
-ghost use Rattle.line_search.specs.Shapes.{IsInGrid};
+ghost use Rattle.line_counts.specs.Shapes.{IsInGrid};
 
 use crate::bound::{all_cross, most_weight};
 use crate::span::Span;

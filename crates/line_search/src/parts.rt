@@ -1,7 +1,7 @@
 //! The two parts of a shape.
 ghost use Rattle.std.specs.Prelude.{◌≡◌, ◌++◌, ◌+ℤ◌, ◌≤ℤ◌, ◌<ℤ◌, pos, negsuc, IfOk};
 ghost use Rattle.std.specs.Option.{option_to_list};
-ghost use Rattle.line_search.specs.Shapes.{IsInGrid, IsSingle};
+ghost use Rattle.line_counts.specs.Shapes.{IsInGrid, IsSingle};
 ghost use Rattle.line_search.specs.Parts;
 ghost use Rattle.line_search.specs.Parts.{AreHalves, IsLong};
 
@@ -42,7 +42,7 @@ fn gain(low: i32, high: i32, rows: i32) -> i32
 
 /// The range of a shape that reaches over the most rows, where the farthest middle of a box is `widest` columns
 /// from the left.
-fn longest(shape: &Shape, widest: u16) -> Range
+pub(crate) fn longest(shape: &Shape, widest: u16) -> Range
     requires in_grid { IsInGrid MAX_SIDE MAX_DEPTH shape.now }
     requires wide { IsSingle shape.now → ⊥ }
     ensures { IsLong shape.now result }
@@ -60,14 +60,46 @@ fn longest(shape: &Shape, widest: u16) -> Range
     }
 }
 
-/// The two parts of a shape, which is cut at the middle of the range that reaches over the most rows up to the farthest
-/// middle of a box. Any range would do; this one keeps the search short.
-pub(crate) fn halves(shape: &Shape, widest: u16) -> (Shape, Shape)
+/// The most offsets of a block of a table of keys.
+const BLOCK: i32 = 64;
+
+/// How many numbers a range has.
+fn count(low: i32, high: i32) -> i32
+    requires low { negsuc 9999 ≤ℤ low }
+    requires some { low <ℤ high }
+    requires high { high ≤ℤ pos 9999 }
+    ensures { (low +ℤ result) ≡ high }
+{
+    high - low
+}
+
+/// The range of a shape that is cut where a table has keys of whole blocks: the offsets down to a block, then the slopes
+/// down to one, then the longer of offsets and depths.
+pub(crate) fn by_blocks(shape: &Shape) -> Range
     requires in_grid { IsInGrid MAX_SIDE MAX_DEPTH shape.now }
     requires wide { IsSingle shape.now → ⊥ }
+    ensures { IsLong shape.now result }
+{
+    let offsets = count(shape.b0, shape.b1);
+    let depths = count(shape.c0, shape.c1);
+    if offsets > BLOCK {
+        Range::Offsets
+    } else if count(shape.a0, shape.a1) > 1 {
+        Range::Slopes
+    } else if offsets >= depths {
+        Range::Offsets
+    } else {
+        Range::Depths
+    }
+}
+
+/// The two parts of a shape, which is cut at the middle of a range.
+pub(crate) fn halves(shape: &Shape, range: Range) -> (Shape, Shape)
+    requires in_grid { IsInGrid MAX_SIDE MAX_DEPTH shape.now }
+    requires long { IsLong shape.now range }
     ensures { AreHalves shape.now result.0 result.1 }
 {
-    match longest(shape, widest) {
+    match range {
         Range::Slopes => {
             let middle = half(shape.a0 as i16, shape.a1 as i16);
             (

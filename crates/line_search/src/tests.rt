@@ -1,17 +1,17 @@
-//! Lines of pages whose boxes were written down by hand, or made by chance and given to a plain program
-//! too.
+//! Lines of pages whose boxes were written down by hand or made by chance.
 ghost use Rattle.std.specs.Prelude.{◌<◌, ◌≤◌, IfOk, length, All};
 ghost use Rattle.layout_geom.specs.declared.rect.Rect.{Rect};
 ghost use Rattle.layout_geom.specs.Rectangles.{Encloses};
 
-mod by_chance;
+mod both_forms;
 mod by_hand;
-mod plain;
 
 use layout_geom::{Rect, Rects};
-use plain::Sides;
 use std::alloc::Global;
 use std::test::Fail;
+
+/// The sides `x0`, `y0`, `x1`, `y1` of a rectangle.
+type Sides = (u16, u16, u16, u16);
 
 /// The rectangle that has the boxes of every test inside.
 const PAGE: Sides = (0, 0, 1010, 1010);

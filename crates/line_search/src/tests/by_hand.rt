@@ -1,6 +1,5 @@
 //! Lines that were worked out by hand.
-use super::plain::Sides;
-use super::{PAGE, boxes_in, rects_of, sides_of};
+use super::{PAGE, Sides, boxes_in, rects_of, sides_of};
 use crate::characters::characters;
 use crate::{Grid, Line, lines};
 use box_search::{Alone, Noted, Searcher};
@@ -14,21 +13,21 @@ use std::test::Fail;
 
 /// A line as it is worked out: slope, offset and depth, score, the first of its members and how many there are,
 /// which have neighbouring positions, and its box.
-type Wanted = ((i8, i16, u8), u32, u32, u32, Sides);
+pub(super) type Wanted = ((i8, i16, u8), u32, u32, u32, Sides);
 
 /// A row of glyphs of 10 by 10 pixels: its upper side, and the left sides of the glyphs.
-type Row = (u16, &'static [u16]);
+pub(super) type Row = (u16, &'static [u16]);
 
 /// The kept boxes of a page, with rows of glyphs behind them, their median height, the gutters, the height of the
 /// page and its lines.
 #[derive(Clone, Copy)]
-struct Case {
+pub(super) struct Case {
     name: &'static str,
     boxes: &'static [Sides],
     rows: &'static [Row],
-    median: u16,
-    gutters: &'static [Sides],
-    height: u16,
+    pub(super) median: u16,
+    pub(super) gutters: &'static [Sides],
+    pub(super) height: u16,
     lines: &'static [Wanted],
 }
 
@@ -67,7 +66,7 @@ const LOW_TAILS: [Sides; 5] = [
     (90, 20, 100, 30),
 ];
 
-const CASES: [Case; 11] = [
+pub(super) const CASES: [Case; 11] = [
     Case {
         name: "no kept box",
         median: 0,
@@ -176,7 +175,7 @@ const CASES: [Case; 11] = [
 ];
 
 /// The sides of the boxes of a case.
-fn sides_in(alloc: Global, case: &Case) -> Result<Vec<Sides>, Fail> {
+pub(super) fn sides_in(alloc: Global, case: &Case) -> Result<Vec<Sides>, Fail> {
     let mut all = Vec::from_slice(alloc, case.boxes)?;
     for (top, lefts) in case.rows {
         put_row(&mut all, *top, lefts)?;

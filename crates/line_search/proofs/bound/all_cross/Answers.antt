@@ -1,5 +1,5 @@
 use Rattle.std.proofs.Common.{arith, ◌≡◌, ◌∙◌, refl, int_lt, int_le, pos}
-use Rattle.line_search.specs.Bounds.{lowest, highest}
+use Rattle.line_counts.specs.Plain.{lowest, highest}
 use Rattle.line_quality.specs.Points.{middle_of}
 use Rattle.line_search.proofs.Ranges.{compared, both_hold, first_fails}
 use Rattle.line_search.proofs.bound.all_cross.Goals as goal

@@ -1,7 +1,8 @@
 use Rattle.std.proofs.Common.{◌≡◌, ◌∙◌, ◌+ℤ◌, ◌-ℤ◌, pos, arith, ap}
 use Rattle.std.proofs.lemmas.Int.{ints}
 use Rattle.line_quality.specs.Points.{middle_of, weight_at}
-use Rattle.line_search.specs.Bounds.{lowest, highest, gap_to, distance}
+use Rattle.line_counts.specs.Plain.{lowest, highest, gap_to}
+use Rattle.line_search.specs.Bounds.{distance}
 use Rattle.line_search.proofs.Ranges.{back_32, lower_is, lower_less_is}
 use Rattle.line_search.proofs.bound.most_weight.Goals as goal
 

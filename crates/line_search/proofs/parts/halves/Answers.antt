@@ -1,5 +1,5 @@
-use Rattle.std.proofs.Common.{inl, inr}
-use Rattle.line_search.specs.Parts.{lower_slopes, upper_slopes, lower_offsets, upper_offsets, lower_depths, upper_depths}
+use Rattle.std.proofs.Common.{inl, inr, subst}
+use Rattle.line_search.specs.Parts.{IsLong, lower_slopes, upper_slopes, lower_offsets, upper_offsets, lower_depths, upper_depths}
 use Rattle.line_search.proofs.Ranges.{kept_in, offsets_cut, slopes_cut, depths_cut, same_shape}
 use Rattle.line_search.proofs.parts.halves.Goals as goal
 
@@ -10,7 +10,7 @@ returns-in-Slopes c =
     let kept = kept_in shape grid in
     let middle = slopes_cut shape grid c.half-middle.result c.half-middle.ensures in
     inl (
-      c.in-Slopes.ensures,
+      subst (IsLong shape) c.in-Slopes.is c.requires.long,
       same_shape _ _ _ _ _ _ (lower_slopes shape) kept.0 middle kept.2 kept.3 kept.4 kept.5,
       same_shape _ _ _ _ _ _ (upper_slopes shape) middle kept.1 kept.2 kept.3 kept.4 kept.5,
     )
@@ -22,7 +22,7 @@ returns-in-Offsets c =
     let kept = kept_in shape grid in
     let middle = offsets_cut shape grid c.half-middle-in-Offsets.result c.half-middle-in-Offsets.ensures in
     inr (inl (
-      c.in-Offsets.ensures,
+      subst (IsLong shape) c.in-Offsets.is c.requires.long,
       same_shape _ _ _ _ _ _ (lower_offsets shape) kept.0 kept.1 kept.2 middle kept.4 kept.5,
       same_shape _ _ _ _ _ _ (upper_offsets shape) kept.0 kept.1 middle kept.3 kept.4 kept.5,
     ))
@@ -34,7 +34,7 @@ returns-in-Depths c =
     let kept = kept_in shape grid in
     let middle = depths_cut shape grid c.half-middle-in-Depths.result c.half-middle-in-Depths.ensures in
     inr (inr (
-      c.in-Depths.ensures,
+      subst (IsLong shape) c.in-Depths.is c.requires.long,
       same_shape _ _ _ _ _ _ (lower_depths shape) kept.0 kept.1 kept.2 kept.3 kept.4 middle,
       same_shape _ _ _ _ _ _ (upper_depths shape) kept.0 kept.1 kept.2 kept.3 middle kept.5,
     ))

@@ -3,7 +3,7 @@ use Rattle.std.proofs.lemmas.Int.{ints}
 use Rattle.line_quality.specs.Points.{IsSlope}
 use Rattle.line_search.specs.Lines.{deepest}
 use Rattle.line_search.specs.Problem.{GridProblem}
-use Rattle.line_search.specs.Shapes.{IsInGrid}
+use Rattle.line_counts.specs.Shapes.{IsInGrid}
 use Rattle.line_search.specs.Bounds.{stretch_of}
 use Rattle.line_search.proofs.Bounding.{wider, bound_of}
 use Rattle.line_search.proofs.Reaching.{kept_reaching}
@@ -22,9 +22,9 @@ returns-clause-fitting c =
     let grid : IsInGrid 8192 63 shape = wider p.height (deepest p.median) shape c.requires.in_grid in
     let offset = in_16 shape.b0 grid.from_offset (omega (arith, ints, grid.some_offset, grid.to_offset)) in
     let slope = nearest_back shape grid c.nearest_slope.result c.nearest_slope.ensures in
-    let boxes = ap (λ (q : GridProblem). q.boxes) c.self.view_is in
-    let gutters = ap (λ (q : GridProblem). q.gutters) c.self.view_is in
-    let alive : c.as_slice.result.now ≡ p.alive = c.as_slice.ensures.same ∙ ap (λ (q : GridProblem). q.alive) c.self.view_is in
+    let boxes = c.boxes-boxes.ensures ∙ ap (λ (q : GridProblem). q.boxes) c.self.view_is in
+    let gutters = c.gutters-gutters.ensures ∙ ap (λ (q : GridProblem). q.gutters) c.self.view_is in
+    let alive : c.as_slice.result.now ≡ p.alive = c.as_slice.ensures.same ∙ c.alive-alive.ensures ∙ ap (λ (q : GridProblem). q.alive) c.self.view_is in
     let near = c.in_ok-near.near in
     record {
       in_grid = c.requires.in_grid;
