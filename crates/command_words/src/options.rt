@@ -105,12 +105,7 @@ fn matches_of_words<'a>(
 fn has_stray(words: &[String]) -> bool
     ensures stray { IsTrue result ↔ Any (λ word. is_stray (string_bytes word) ≡ true) words.now }
 {
-    for word in words {
-        if is_stray_word(word.as_str()) {
-            return true;
-        }
-    }
-    false
+    words.iter().any(|word| is_stray_word(word.as_str()))
 }
 
 /// The values of the options, where the words are options of the program with a value each.
