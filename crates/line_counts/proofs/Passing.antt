@@ -111,3 +111,11 @@ stretch_empty page stretch least most little low key within =
     let at : IsKeyAt page least stretch.slope (stretch.from +ℤ pos there.0) within.of.depth key =
     subst (λ (o : ℤ). IsKeyAt page least stretch.slope o within.of.depth key) there.2 within.of.at in
     absurd (omega (arith, little, at.enough, low there.0 within.of.depth at.score at.in_column there.1 within.of.to_depth at.scored))
+
+-- a line whose top is too low for the best key of some while ago, and so for the best one
+pub top_passed : (page : LivingPage) (least ago best top needed : ℕ) (slope offset : ℤ) (depth : ℕ) → needed ≡ max least (ago / 2 ^ 29) → ago ≤ best → top < needed
+    → ((score k : ℕ) → IsScore slope offset depth page.boxes page.gutters page.alive score k → score ≤ top) → IsGreaterKey (IsKeyAt page least slope offset depth) best best
+top_passed page least ago best top needed slope offset depth is rose little low = none_since (IsKeyAt page least slope offset depth) best
+    (λ key at.
+    let less = less_key at.score ago key (omega (arith, at.has_key, key_below at.score slope offset depth)) (omega (arith, is, little, low at.score at.in_column at.scored, at.enough)) in
+    (omega (arith, less.0, rose), omega (arith, less.1, rose)))

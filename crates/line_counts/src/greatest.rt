@@ -188,8 +188,12 @@ impl Counts {
         }
         let first = likeliest(tops, row.offsets);
         let mut best = self.better(row, first, tops[first as usize], least, before);
+        let enough = needed(least, best);
         for more in 0..row.offsets {
-            best = self.better(row, more, tops[more as usize], least, best);
+            let top = tops[more as usize];
+            if top as u64 >= enough {
+                best = self.better(row, more, top, least, best);
+            }
         }
         best
     }

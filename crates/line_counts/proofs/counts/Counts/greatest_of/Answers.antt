@@ -1,10 +1,11 @@
-use Rattle.std.proofs.Common.{◌≡◌, ◌+◌, ◌<◌, ◌≤◌, ℕ, ℤ, ◌+ℤ◌, ◌≤ℤ◌, ◌<ℤ◌, pos, negsuc, to_z, of_z, w16, arith, subst}
+use Rattle.std.proofs.Common.{◌≡◌, ◌+◌, ◌<◌, ◌≤◌, ℕ, ℤ, ◌+ℤ◌, ◌≤ℤ◌, ◌<ℤ◌, pos, negsuc, to_z, of_z, w16, get_or, arith, sym, subst}
 use Rattle.std.proofs.lemmas.Int.{ints}
-use Rattle.line_counts.specs.Stretches.{IsKeyOf, IsKeyIn}
+use Rattle.line_counts.specs.Stretches.{IsKeyOf, IsKeyIn, IsGreaterKey}
 use Rattle.line_counts.proofs.Places.{held_slope}
-use Rattle.line_counts.proofs.Joining.{no_offset, offset_more, offset_all, begun_with}
-use Rattle.line_counts.proofs.Passing.{IsBeatenBelow, row_passed}
+use Rattle.line_counts.proofs.Joining.{first_of, no_offset, offset_more, offset_all, begun_with, of_one}
+use Rattle.line_counts.proofs.Passing.{IsBeatenBelow, row_passed, top_passed}
 use Rattle.line_counts.proofs.counts.Counts.greatest_of.Goals as goal
+use Rattle.line_counts.proofs.counts.Counts.greatest_of.Goals.{then-top-enough, else-top-enough}
 
 held_first : (from : ℤ) (count height : ℕ) → negsuc 299 ≤ℤ from → (from +ℤ pos count) ≤ℤ pos (height + 300 + 1) → height ≤ 8192 → to_z w16 (of_z w16 from) ≡ from
 held_first from count height low high page = omega (arith, ints)
@@ -30,7 +31,21 @@ loop-more-init c = no_offset c.args.self.now c.args.least c.args.row.now c.bette
 
 pub loop-more-preserved : goal.loop-more-preserved
 loop-more-preserved c =
-    offset_more c.args.self.now c.args.least c.args.row.now c.loop-more.more c.better-best.result c.loop-more.best c.better-best-in-loop-more.result c.loop-more.invariant c.better-best-in-loop-more.ensures
+    let page = c.args.self.now in
+    let row = c.args.row.now in
+    let more = c.loop-more.more in
+    elim c.if-top-enough.branch [
+      | then-top-enough w ↦
+          subst (λ (key : ℕ). IsGreaterKey (IsKeyIn page c.args.least (first_of row (more + 1))) c.better-best.result key) (sym w.best-is)
+          (offset_more page c.args.least row more c.better-best.result c.loop-more.best w.better-best-then-top-enough.result c.loop-more.invariant w.better-best-then-top-enough.ensures)
+      | else-top-enough w ↦
+          subst (λ (key : ℕ). IsGreaterKey (IsKeyIn page c.args.least (first_of row (more + 1))) c.better-best.result key) (sym w.best-is)
+          (offset_more page c.args.least row more c.better-best.result c.loop-more.best c.loop-more.best c.loop-more.invariant
+          (of_one page c.args.least row.slope (row.from +ℤ pos more) row.shallowest row.deepest c.loop-more.best c.loop-more.best c.requires.row
+          (top_passed page c.args.least c.better-best.result c.loop-more.best (get_or c.args.tops.now more 0) c.needed-enough.result row.slope (row.from +ℤ pos more) row.deepest c.needed-enough.ensures c.loop-more.invariant.no_less
+          w.if-top-enough.false
+          (λ score k scored. c.requires.tops.over more score k c.loop-more-test.true scored))))
+    ]
 
 pub returns : goal.returns
 returns c =
