@@ -1,10 +1,11 @@
 //! A sink over memory, with room made before, which fails at the calls that it is told to fail at.
-ghost use Rattle.std.specs.Prelude.{◌≡◌, ℕ, ◌+◌, ◌-◌, ◌<◌, ◌≤◌, ◌↔◌, ◌⊎◌, List, [], ◌++◌};
-ghost use Rattle.std.specs.Prelude.{length, take, min, Some, IsOk, IfOk, OnOk, IsErr, OnErr, Contains, vec_len, vec_capacity};
+ghost use Rattle.std.specs.Prelude.{◌≡◌, ◌-◌, ◌<◌, ◌≤◌, ◌↔◌, ◌⊎◌, [], length, min, Contains, vec_len, vec_capacity};
+ghost use Rattle.std.specs.Prelude.{Some, IsOk, IfOk, OnOk, IsErr, OnErr};
 ghost use Rattle.layout_outside.specs.Causes.{next_count};
 ghost use Rattle.layout_outside.specs.Views.{IsWrite};
 
 use crate::device::{Failed, Sink};
+use crate::memory::append_reserved;
 use layout_limits::OutOfMemory;
 use std::alloc::Global;
 
@@ -98,18 +99,7 @@ impl Sink for MemSink {
             return Err(Failed);
         }
         let count = room.min(self.piece).min(piece.len());
-        push_all(&mut self.bytes, &piece[..count]);
+        append_reserved(&mut self.bytes, &piece[..count]);
         Ok(count)
-    }
-}
-
-// Appends the piece to bytes that have capacity for it, where `extend_from_slice` may take memory.
-fn push_all(bytes: &mut Vec<u8>, piece: &[u8])
-    requires { vec_len bytes.old + length piece.now ≤ vec_capacity bytes.old }
-    ensures items { bytes.new.items ≡ bytes.old.items ++ piece.now }
-    ensures capacity { vec_capacity bytes.new ≡ vec_capacity bytes.old }
-{
-    for byte in piece {
-        bytes.push_reserved(*byte);
     }
 }

@@ -1,10 +1,11 @@
 //! A source over memory, which fails at the calls that it is told to fail at.
-ghost use Rattle.std.specs.Prelude.{◌≡◌, ℕ, ◌+◌, ◌-◌, ◌<◌, ◌≤◌, ◌↔◌, [], ◌++◌, length};
-ghost use Rattle.std.specs.Prelude.{take, drop, min, Some, IfOk, OnOk, IsErr, OnErr, false, Contains, vec_len};
+ghost use Rattle.std.specs.Prelude.{◌≡◌, ◌+◌, ◌-◌, ◌<◌, ◌≤◌, ◌↔◌, length, drop, min, false, Contains, vec_len};
+ghost use Rattle.std.specs.Prelude.{Some, IfOk, OnOk, IsErr, OnErr};
 ghost use Rattle.layout_outside.specs.Causes.{next_count};
 ghost use Rattle.layout_outside.specs.Views.{IsRead};
 
 use crate::device::{Failed, Source};
+use crate::memory::hand_out;
 
 /// Hands out bytes of memory in order, and fails at the calls that it is told.
 ///
@@ -82,11 +83,8 @@ impl Source for MemSource {
             self.faults = self.faults.saturating_add(1);
             return Err(Failed);
         }
-        let left = self.bytes.len() - self.at;
-        let count = left.min(self.piece).min(buf.len());
-        let end = self.at + count;
-        buf[..count].copy_from_slice(&self.bytes[self.at..end]);
-        self.at = end;
+        let count = hand_out(&self.bytes, self.at, self.piece, buf);
+        self.at += count;
         self.ended = count == 0;
         Ok(count)
     }
