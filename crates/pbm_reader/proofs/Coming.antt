@@ -5,6 +5,7 @@ use Rattle.std.specs.Io.KnownBytes.{prepend_known, IsAtEnd}
 use Rattle.layout_outside.specs.Views.{SourceView}
 use Rattle.layout_outside.specs.Taken.{HasEnded, Took}
 use Rattle.pbm_reader.specs.Feed.{PieceView, seen, unseen, is_limited, whole, with_unread}
+use Rattle.pbm_reader.specs.Reader.{ImagesView, coming}
 use Rattle.pbm_reader.proofs.Taken.{prepend_nothing}
 
 -- what is seen, and what is not
@@ -59,6 +60,15 @@ piece_coming old new room source later bytes limit more took same =
     took_coming old.unread new.unread room r.0 source later bytes
     (subst (λ (o : Option ℕ). P o (Some r.0)) limit (subst (λ (n : Option ℕ). P old.room n) r.1 took))
     (subst (λ (o : Option ℕ). Q o (Some r.0)) limit (subst (λ (n : Option ℕ). Q old.room n) r.1 same))
+
+-- what is taken of a piece that holds what a reader held is taken of what comes next to the reader
+pub held_coming : (view old : ImagesView) (first last : PieceView) (room : ℕ) (source later : SourceView) (bytes : List ℕ) → view ≡ old → first.unread ≡ view.held → first.room ≡ Some room
+    → is_limited last.room ≡ is_limited first.room → Took (whole first source) (whole last later) bytes → unseen last.room later ≡ unseen first.room source
+    → coming old source ≡ prepend_known bytes (prepend_known last.unread later.left)
+held_coming view old first last room source later bytes is held limit limited took same =
+    ap (λ (v : ImagesView). prepend_known v.held source.left) (sym is)
+    ∙ ap (λ (l : List ℕ). prepend_known l source.left) (sym held)
+    ∙ piece_coming first last room source later bytes limit limited took same
 
 -- a byte that a piece with nothing unread takes is one of the source
 pub byte_taken : (next : Option ℕ) (old new : PieceView) (room : ℕ) (source later : SourceView) → IsTrue (is_some next) → old.room ≡ Some room → is_limited new.room ≡ is_limited old.room

@@ -5,7 +5,6 @@ use Rattle.std.proofs.lemmas.Bool.{false_from_ne_true}
 use Rattle.std.proofs.lemmas.List.{length-append}
 use Rattle.pbm_reader.specs.declared.form.Form.{Form}
 use Rattle.pbm_reader.specs.declared.form.Form.TheVariants.{Plain, Raw}
-use Rattle.pbm_reader.specs.declared.header.Told.{Told}
 use Rattle.pbm_reader.specs.declared.fault.Size.{Size}
 use Rattle.pbm_reader.specs.declared.fault.PageFault.{PageFault}
 use Rattle.pbm_reader.specs.declared.fault.PageFault.TheVariants as faults
@@ -13,8 +12,9 @@ use Rattle.pbm_reader.specs.declared.state.HeaderState.{HeaderState}
 use Rattle.pbm_reader.specs.declared.state.HeaderState.TheVariants.{Magic, Named, Whole}
 use Rattle.packed_rows.specs.Page.{IsPageSize}
 use Rattle.pbm_reader.specs.Spelling.{IsHeader, magic}
-use Rattle.pbm_reader.specs.Header.{form_of, next_state, wrong_byte, missing_byte, IsNameFault, IsOfHeader, NameFails, TookSizes, TookHeader}
+use Rattle.pbm_reader.specs.Header.{form_of, next_state, wrong_byte, missing_byte, IsNameFault, IsOfHeader, NameFails, TookHeader}
 use Rattle.pbm_reader.specs.Fault.{Begins, HasFault, HasMagic, IsMagicFault, HasFaultWithin, IsSizeFault, DecidesNothing, IsTruncated, IsHeaderTooLong}
+use Rattle.pbm_reader.specs.Images.{AreUndecided}
 use Rattle.layout_outside.specs.Views.{SourceView}
 use Rattle.layout_outside.specs.Taken.{Took, TookAll}
 use Rattle.pbm_reader.specs.Reading.{Refuses}
@@ -25,7 +25,8 @@ use Rattle.pbm_reader.proofs.Machines.{run, run_append, IsOpen}
 use Rattle.pbm_reader.proofs.HeaderWalk.{is_whole, header_machine, read_header, whole_is, whole_width, whole_height}
 use Rattle.pbm_reader.proofs.RawImages.{header_begins, begins_more, one_name}
 use Rattle.pbm_reader.proofs.Faults.{IsNamed, byte_faults, read_so_far, header_cut, wrong_fault, missing_fault, too_long, size_fault, told_size}
-use Rattle.pbm_reader.proofs.OneFault.{has_fault, letter_fault, nothing_undecided, letter_undecided, cut_undecided}
+use Rattle.pbm_reader.proofs.OneFault.{has_fault, letter_fault, nothing_undecided, letter_undecided}
+use Rattle.pbm_reader.proofs.Undecided.{cut_open, letter_open, none_open}
 
 -- these bytes of a header were taken, and lead to this state
 pub record IsReading (old now : SourceView) (at : ℕ) (state : HeaderState) : Type 0 where
@@ -73,9 +74,21 @@ one_form bytes form named width height h short b =
     by_form Raw Plain x y = absurd (one_name bytes y x)
     by_form Raw Raw x y = refl
 
+-- a header was taken, of at most 65,536 bytes; a size above 999,999,999 is told as 999,999,999
+pub record TookSizes (old new : SourceView) (form : Form) (wide high len : ℕ) : Type 0 where
+  pub bytes : List ℕ
+  pub took : Took old new bytes
+  pub width : ℕ
+  pub height : ℕ
+  pub is_header : IsHeader bytes form width height
+  pub width_told : wide ≡ min width 999999999
+  pub height_told : high ≡ min height 999999999
+  pub len_is : len ≡ length bytes
+  pub short : length bytes ≤ 65536
+
 pub reading_whole : (old middle new : SourceView) (named : Form) (at byte : ℕ) (state : HeaderState) (form : Form) (width height : ℕ) → IsNamedReading old middle named at state
     → Took middle new (byte ∷ []) → next_state state byte ≡ Some (Whole form width height) → at < 65536
-    → TookSizes old new (record { form = named; width = width; height = height; len = at + 1 })
+    → TookSizes old new named width height (at + 1)
 reading_whole old middle new named at byte state form width height n took step low =
     let r = n.reading in
     let bytes = r.taken ++ byte ∷ [] in
@@ -90,7 +103,7 @@ reading_whole old middle new named at byte state form width height n took step l
       is_header = subst (λ (f : Form). IsHeader bytes f h.width h.height) (one_form bytes h.form named h.width h.height h.is_header short (begins_more (magic named) r.taken (byte ∷ []) n.named)) h.is_header;
       width_told = whole_width form h.form width height (min h.width 999999999) (min h.height 999999999) h.told;
       height_told = whole_height form h.form width height (min h.width 999999999) (min h.height 999999999) h.told;
-      len = omega (arith, len, r.len);
+      len_is = omega (arith, len, r.len);
       short = short;
     }
 
@@ -208,17 +221,18 @@ limit_more old middle new byte state r took =
     not_both : (b : Bool) → b ≡ true → b ≡ false → ⊥
     not_both b p q = cc
 
--- a read that fails while a header is read decides nothing
-pub reading_undecided : (old middle new : SourceView) (at : ℕ) (state : HeaderState) → IsReading old middle at state → Took middle new [] → at ≤ 65536 → Refuses old new faults.ReadFault
+-- what was taken where a read fails while a header is read
+pub reading_undecided : (old middle new : SourceView) (at : ℕ) (state : HeaderState) → IsReading old middle at state → Took middle new [] → at ≤ 65536
+    → (taken : List ℕ) × Took old new taken × AreUndecided taken
 reading_undecided old middle new at state r none low = (
   r.taken,
   took_no_more old middle new r.taken r.took none,
   elim (read_so_far r.taken state r.leads.reads) [
-    | inl m ↦ subst DecidesNothing (sym m.0) nothing_undecided
+    | inl m ↦ subst AreUndecided (sym m.0) none_open
     | inr m ↦
         elim m [
-          | inl k ↦ subst DecidesNothing (sym k.0) letter_undecided
-          | inr n ↦ cut_undecided r.taken (length r.taken) (header_cut r.taken state r.leads n (omega (arith, r.len, low)))
+          | inl k ↦ subst AreUndecided (sym k.0) letter_open
+          | inr n ↦ cut_open r.taken (length r.taken) (header_cut r.taken state r.leads n (omega (arith, r.len, low)))
         ]
   ],
 )
@@ -248,18 +262,18 @@ name_refuses old new faults.Memory f = absurd f
 
 -- ---- the sizes
 
-pub sizes_fail : (old new : SourceView) (told : Told) (fault : PageFault) → TookSizes old new told → IsSizeFault told.width told.height fault → Refuses old new fault
-sizes_fail old new told fault t f =
-    let P : ℕ → Type 0 = λ n. IsSizeFault n told.height fault in
+pub sizes_fail : (old new : SourceView) (form : Form) (wide high len : ℕ) (fault : PageFault) → TookSizes old new form wide high len → IsSizeFault wide high fault → Refuses old new fault
+sizes_fail old new form wide high len fault t f =
+    let P : ℕ → Type 0 = λ n. IsSizeFault n high fault in
     let Q : ℕ → Type 0 = λ n. IsSizeFault (min t.width 999999999) n fault in
     let here = subst Q t.height_told (subst P t.width_told f) in
     refused old new fault (other fault f)
     (of_all (λ input. HasFault input fault) old new t.bytes t.took
-    (λ rest. has_fault (t.bytes ++ rest) fault (size_fault t.bytes rest told.form t.width t.height fault t.is_header t.short here)))
+    (λ rest. has_fault (t.bytes ++ rest) fault (size_fault t.bytes rest form t.width t.height fault t.is_header t.short here)))
   where
-    other : (k : PageFault) → IsSizeFault told.width told.height k → k ≡ faults.ReadFault → ⊥
+    other : (k : PageFault) → IsSizeFault wide high k → k ≡ faults.ReadFault → ⊥
     other faults.ZeroSize s e = cc
-    other (faults.TooLarge wide high) s e = cc
+    other (faults.TooLarge width height) s e = cc
     other (faults.Magic at) s e = s
     other (faults.Header at) s e = s
     other faults.HeaderTooLong s e = s
@@ -271,21 +285,20 @@ sizes_fail old new told fault t f =
     other faults.ReadFault s e = s
     other faults.Memory s e = s
 
-pub header_taken : (old new : SourceView) (told : Told) (size : Size) (form : Form) → told.form ≡ form → TookSizes old new told
-    → IsPageSize told.width told.height × (size.width ≡ told.width) × (size.height ≡ told.height) → TookHeader old new (record { form = form; size = size; len = told.len })
-header_taken old new told size form named t s =
-    let P : ℕ → Type 0 = λ n. IsPageSize n told.height in
+pub header_taken : (old new : SourceView) (form : Form) (wide high len : ℕ) (size : Size) → TookSizes old new form wide high len
+    → IsPageSize wide high × (size.width ≡ wide) × (size.height ≡ high) → TookHeader old new (record { form = form; size = size; len = len })
+header_taken old new form wide high len size t s =
+    let P : ℕ → Type 0 = λ n. IsPageSize n high in
     let Q : ℕ → Type 0 = λ n. IsPageSize (min t.width 999999999) n in
     let e = told_size t.width t.height (subst Q t.height_told (subst P t.width_told s.0)) in
-    let wide : size.width ≡ t.width = s.1 ∙ t.width_told ∙ e.0 in
-    let high : size.height ≡ t.height = s.2 ∙ t.height_told ∙ e.1 in
-    let header = subst (λ (f : Form). IsHeader t.bytes f t.width t.height) named t.is_header in
+    let same_width : size.width ≡ t.width = s.1 ∙ t.width_told ∙ e.0 in
+    let same_height : size.height ≡ t.height = s.2 ∙ t.height_told ∙ e.1 in
     record {
       bytes = t.bytes;
       took = t.took;
-      is_header = subst (λ (n : ℕ). IsHeader t.bytes form n size.height) (sym wide) (subst (λ (n : ℕ). IsHeader t.bytes form t.width n) (sym high) header);
-      size = subst (λ (n : ℕ). IsPageSize n size.height) (sym s.1) (subst (λ (n : ℕ). IsPageSize told.width n) (sym s.2) s.0);
-      len = t.len;
+      is_header = subst (λ (n : ℕ). IsHeader t.bytes form n size.height) (sym same_width) (subst (λ (n : ℕ). IsHeader t.bytes form t.width n) (sym same_height) t.is_header);
+      size = subst (λ (n : ℕ). IsPageSize n size.height) (sym s.1) (subst (λ (n : ℕ). IsPageSize wide n) (sym s.2) s.0);
+      len = t.len_is;
       short = t.short;
     }
 

@@ -8,7 +8,7 @@ use Rattle.pbm_reader.specs.Fault.{HasFaultWithin}
 use Rattle.pbm_reader.specs.Images.{SpellsIn, SpellsImages, SpellsPages, BeginsImage, FrontImages, behind_bytes, IsImageFault, HasFaultAfter, HasImagesFault, ArePagesTooLong, HasPagesFault}
 use Rattle.pbm_reader.proofs.OneFault.{one_within, page_within}
 use Rattle.pbm_reader.proofs.OnePage.{one_page}
-use Rattle.pbm_reader.proofs.RawImages.{SameImages, images_once, first_image, nothing_first, form_begins, image_begins, one_name}
+use Rattle.pbm_reader.proofs.RawImages.{SameImages, images_once, first_image, nothing_first, form_begins, image_begins, no_image, one_name}
 
 -- ---- the bytes behind the images
 
@@ -48,12 +48,6 @@ one_images_fault input f g x y =
     after_once (length y.pages) (length y.images) y.behind f g (after_moved x.pages y.pages x.images y.images x.behind y.behind f s x.is_fault) y.is_fault
 
 -- ---- bytes that spell pages
-
-pub no_image : BeginsImage [] → ⊥
-no_image i = let b = image_begins [] i in not_nil 80 (52 ∷ b.0) b.1
-  where
-    not_nil : (x : ℕ) (xs : List ℕ) → [] ≡ x ∷ xs → ⊥
-    not_nil x xs e = cc
 
 -- all of the bytes are the images at their front
 full_front : (input : List ℕ) (pages : List Page) → SpellsImages input pages → FrontImages input pages input []

@@ -16,6 +16,7 @@ pub mod RasterJudged
 pub mod Judged
 pub mod OnePage
 pub mod RawImages
+pub mod Undecided
 pub mod ImageFaults
 pub mod ImageFronts
 pub mod ImagesJudged
@@ -25,6 +26,7 @@ pub mod TopRows
 pub mod RowLoop
 pub mod PixelLoop
 pub mod PlainRows
+pub mod EitherForm
 pub mod TailLoop
 pub mod WholePage
 pub mod ImageRead

@@ -1,5 +1,5 @@
 -- What a call of a reader of images says of all that comes, by what it read within the limit.
-use Rattle.std.proofs.Common.{◌≡◌, ℕ, ◌+◌, ◌-◌, ◌<◌, ◌≤◌, ◌==◌, Bool, true, false, List, [], ◌∷◌, length, Option, Some, None, Result, Ok, Err, refl, sym, ap, subst, ◌∙◌, arith, rules}
+use Rattle.std.proofs.Common.{◌≡◌, ℕ, ◌+◌, ◌-◌, ◌<◌, ◌≤◌, ◌==◌, Bool, true, false, List, [], ◌∷◌, ◌++◌, length, Option, Some, None, Result, Ok, Err, refl, sym, ap, subst, ◌∙◌, arith, rules}
 use Rattle.std.specs.Prelude.{IfSome, IfNone, IfOk, IfErr}
 use Rattle.pbm_reader.specs.declared.image.Image.{Image}
 use Rattle.pbm_reader.specs.declared.fault.PageFault.{PageFault}
@@ -11,7 +11,10 @@ use Rattle.pbm_reader.specs.Feed.{PieceView, whole}
 use Rattle.pbm_reader.specs.Reader.{coming, counted_from, is_plain, AfterNextFault, EndsHere, GivesImage, HasSamePlace, ImagesView, IsNextFault, ReadsWithin, RefusesNext, StandsAtEnd, TakesImage}
 use Rattle.layout_outside.specs.Views.{SourceView}
 use Rattle.layout_outside.specs.Taken.{HasEnded, Took}
+use Rattle.std.proofs.lemmas.List.{length-append}
+use Rattle.pbm_reader.specs.Images.{SpellsIn}
 use Rattle.pbm_reader.proofs.Taken.{prepend_nothing}
+use Rattle.pbm_reader.proofs.NextImage.{are_more, first_none}
 use Rattle.pbm_reader.proofs.NextRead.{IsReading, Answers, Ends, past, past_top, failed, next_fault, next_image, next_none, next_top}
 
 -- a reader that holds these bytes
@@ -157,4 +160,14 @@ gives_image begun given old taken new source later before after image t same few
       alone = t.alone;
       all = λ plain. nothing (t.ended plain);
       ended = ended;
+      more = λ raw images were. (
+        record {
+          pages = were.pages ++ t.page ∷ [];
+          are_images = are_more were.pages images t.bytes t.page were.are_images (subst (λ (f : Form). SpellsIn f t.bytes t.page) raw t.spells);
+          count_is = omega (arith, length-append were.pages (t.page ∷ []), were.count_is, count, same.count);
+          len_is = omega (arith, length-append images t.bytes, were.len_is, judged, same.judged, t.len);
+        },
+        refl,
+      );
+      first = λ plain images were. first_none old.count old.judged images were (t.alone plain);
     }

@@ -333,7 +333,7 @@ place_settles_nothing count len bytes faults.Memory is_first few low first later
 
 -- ---- a page behind images
 
-are_more : (pages : List Page) (images image : List ℕ) (page : Page) → AreImages pages images → SpellsIn Raw image page → AreImages (pages ++ page ∷ []) (images ++ image)
+pub are_more : (pages : List Page) (images image : List ℕ) (page : Page) → AreImages pages images → SpellsIn Raw image page → AreImages (pages ++ page ∷ []) (images ++ image)
 are_more [] images image page e s = (image, [], ap (λ (l : List ℕ). l ++ image) e ∙ sym (append-nil image), s, refl)
 are_more (p ∷ ps) images image page e s = (e.0, e.1 ++ image, ap (λ (l : List ℕ). l ++ image) e.2 ∙ append_assoc e.0 e.1 image, e.3, are_more ps e.1 image page e.4 s)
 

@@ -16,8 +16,8 @@ use Rattle.pbm_reader.specs.Images.{SpellsIn, ArePages, BeginsImage, HasPagesFau
 use Rattle.pbm_reader.specs.Reading.{AnswersFault, HasReadCause}
 use Rattle.pbm_reader.specs.Reader.{coming, EndsBehind, GivesImage, ImagesView, IsGivenUnlessMemory, IsNextFault, IsNextImage, RefusesNext, WereImages}
 use Rattle.pbm_reader.proofs.Taken.{some_of}
-use Rattle.pbm_reader.proofs.RawImages.{form_begins}
-use Rattle.pbm_reader.proofs.ImageFaults.{no_image, never_both, one_pages_fault}
+use Rattle.pbm_reader.proofs.RawImages.{form_begins, no_image}
+use Rattle.pbm_reader.proofs.ImageFaults.{never_both, one_pages_fault}
 use Rattle.pbm_reader.proofs.NextImage.{first_none}
 
 -- the bytes that were taken are the first of those that came
@@ -41,7 +41,7 @@ module _ {Sink : Type 0} (begun : Sink → ℕ → ℕ → Sink → Type 0) (giv
   Gives size = GivesImage begun given old new source later before after size
 
   abbrev Ends : Type 0
-  Ends = EndsBehind old new source × (after ≡ before)
+  Ends = EndsBehind old new source later × (after ≡ before)
 
   refuses : (fault : PageFault) (bytes : List ℕ) → RefusesNext old new source later fault → (fault ≡ faults.ReadFault → ⊥) → coming old source ≡ Some bytes
       → (fault ≡ faults.Memory) ⊎ IsNextFault old.count old.judged bytes fault
@@ -57,6 +57,40 @@ module _ {Sink : Type 0} (begun : Sink → ℕ → ℕ → Sink → Type 0) (giv
   refuses (faults.Trailing at) bytes f calm told = inr (some_of (coming old source) bytes (λ l. IsNextFault old.count old.judged l (faults.Trailing at)) told f)
   refuses faults.InputTooLong bytes f calm told = inr (some_of (coming old source) bytes (λ l. IsNextFault old.count old.judged l faults.InputTooLong) told f)
   refuses faults.TooManyImages bytes f calm told = inr (some_of (coming old source) bytes (λ l. IsNextFault old.count old.judged l faults.TooManyImages) told f)
+
+  -- what was given to a reader is so whether it is open or not
+  same_image : (last : ImagesView) (size : Size) → last.judged ≡ new.judged → last.count ≡ new.count → last.held ≡ new.held → last.has_ended ≡ new.has_ended → Gives size
+      → GivesImage begun given old last source later before after size
+  same_image last size judged count held ended g =
+      let low = g.low in
+      let few = g.few in
+      record {
+        form = g.form;
+        image = g.image;
+        page = g.page;
+        took = g.took ∙ ap (λ (u : List ℕ). prepend_known g.image (prepend_known u later.left)) (sym held);
+        spells = g.spells;
+        width_is = g.width_is;
+        height_is = g.height_is;
+        sink = g.sink;
+        judged_is = judged ∙ g.judged_is;
+        low = omega (arith, judged, low);
+        count_is = count ∙ g.count_is;
+        few = omega (arith, count, few);
+        alone = g.alone;
+        all = λ plain. subst (λ (u : List ℕ). IsAtEnd (prepend_known u later.left)) (sym held) (g.all plain);
+        ended = ended ∙ g.ended;
+        more = λ raw images were.
+            let m = g.more raw images were in
+            (record { pages = m.0.pages; are_images = m.0.are_images; count_is = m.0.count_is ∙ sym count; len_is = m.0.len_is ∙ sym judged }, m.1);
+        first = g.first;
+      }
+
+  pub image_next : (last : ImagesView) (result : Result (Option Size) PageFault) → last.judged ≡ new.judged → last.count ≡ new.count → last.held ≡ new.held → last.has_ended ≡ new.has_ended
+      → IfOk result (λ o. IfSome o Gives) → IfOk result (λ o. IfSome o (GivesImage begun given old last source later before after))
+  image_next last (Ok (Some size)) judged count held ended gives = same_image last size judged count held ended gives
+  image_next last (Ok None) judged count held ended gives = tt
+  image_next last (Err fault) judged count held ended gives = tt
 
   -- an end was answered
   nothing : (bytes : List ℕ) → Ends → coming old source ≡ Some bytes → bytes ≡ []

@@ -19,8 +19,7 @@ use Rattle.pbm_reader.proofs.Taken.{prepend_nothing, prepend_twice, some_of}
 use Rattle.pbm_reader.proofs.Coming.{some_room, piece_coming}
 use Rattle.pbm_reader.proofs.TopRows.{after_moved, after_other, image_after}
 use Rattle.pbm_reader.proofs.OneFault.{nothing_undecided}
-use Rattle.pbm_reader.proofs.RawImages.{form_begins, image_begins, one_name}
-use Rattle.pbm_reader.proofs.ImageFaults.{no_image}
+use Rattle.pbm_reader.proofs.RawImages.{form_begins, image_begins, no_image, one_name}
 use Rattle.pbm_reader.proofs.NextImage.{is_zero, own_next, own_none, past_next, no_fault_decided, nothing_settles, place_settles_nothing, page_settles_nothing, undecided_next}
 use Rattle.pbm_reader.proofs.WithinLimit.{IsCut, SettlesNothing, all_taken, ended_unread, ended_kept, is_cut, own_place, taken_len, untold, untold_behind, untold_part}
 
@@ -152,10 +151,13 @@ module _ {Sink : Type 0} (begun : Sink → ℕ → ℕ → Sink → Type 0) (giv
   unfolding AtEnd
   failed answer new later a stands held took = by_left source.left refl
     where
-      kept_none : (answer : Result (Option Image) PageFault) → Answers answer → after.unread ≡ [] → kept.unread ≡ []
-      kept_none (Ok (Some image)) a none = a.3 ∙ none
-      kept_none (Ok None) a none = a.3
-      kept_none (Err own) a none = a.1
+      kept_none : (answer : Result (Option Image) PageFault) → Answers answer → StandsAtEnd (268435456 - old.judged) answer → kept.unread ≡ []
+      kept_none (Ok (Some image)) a stands = a.3 ∙ ended_unread after.unread (seen after.room middle) (a.1.ended stands)
+      kept_none (Ok None) a stands = a.3
+      kept_none (Err own) a stands = a.1
+
+      none_held : new.held ≡ []
+      none_held = held ∙ kept_none answer a stands
 
       by_left : (left : Option (List ℕ)) → source.left ≡ left → RefusesNext old new source later faults.ReadFault
       by_left None none =
@@ -164,6 +166,8 @@ module _ {Sink : Type 0} (begun : Sink → ℕ → ℕ → Sink → Type 0) (giv
             [],
             ap (λ (o : Option (List ℕ)). prepend_known old.held o) none ∙ sym (ap (λ (o : Option (List ℕ)). prepend_known [] (prepend_known new.held o)) (later_none later.left untold)),
             undecided_next old.count old.judged [] is_first r.few (omega (arith, low)) r.first r.later nothing_undecided (λ l b. omega (arith, ap length b.1)),
+            (λ n. no_image n.begins),
+            none_held,
           )
         where
           middle_none : source.left ≡ None → middle.left ≡ None
@@ -180,12 +184,13 @@ module _ {Sink : Type 0} (begun : Sink → ℕ → ℕ → Sink → Type 0) (giv
       by_left (Some all) told =
           let c = cut all told in
           let end = at_end answer a stands c in
-          let none : new.held ≡ [] = held ∙ kept_none answer a (ended_unread after.unread (seen after.room middle) end.1) in
           let same : coming new later ≡ Some c.more =
-          ap (λ (u : List ℕ). prepend_known u later.left) none ∙ sym took ∙ c.rest_is ∙ ap (λ (l : List ℕ). let o : Option (List ℕ) = Some l in o) (c.ended end.1) in (
+          ap (λ (u : List ℕ). prepend_known u later.left) none_held ∙ sym took ∙ c.rest_is ∙ ap (λ (l : List ℕ). let o : Option (List ℕ) = Some l in o) (c.ended end.1) in (
             c.front,
             comes c ∙ sym (ap (λ (o : Option (List ℕ)). prepend_known c.front o) same),
             no_fault_decided old.count old.judged c.front c.low end.0.nothing,
+            (λ n. end.0.none n.begins r.few),
+            none_held,
           )
 
   -- ---- an answer that holds of all that comes
@@ -245,13 +250,17 @@ module _ {Sink : Type 0} (begun : Sink → ℕ → ℕ → Sink → Type 0) (giv
             [],
             untold a.0.0 (coming old source) (coming new later) same (ap (λ (o : Option (List ℕ)). prepend_known old.held o) none),
             undecided_next old.count old.judged [] is_first r.few (omega (arith, low)) r.first r.later nothing_undecided (λ l b. omega (arith, ap length b.1)),
+            (λ n. no_image n.begins),
+            held ∙ a.1,
           )
       by_left (Some all) told =
           let c = cut all told in
           let low = c.low in (
             a.0.0,
             same,
-            undecided_next old.count old.judged a.0.0 is_first r.few (omega (arith, low, taken_len (whole before source).left (whole after middle).left c.front a.0.0 c.front_is a.0.1)) r.first r.later a.0.2 a.0.3,
+            undecided_next old.count old.judged a.0.0 is_first r.few (omega (arith, low, taken_len (whole before source).left (whole after middle).left c.front a.0.0 c.front_is a.0.1)) r.first r.later a.0.2.0 a.0.3,
+            (λ n. a.0.2.1 n.begins),
+            held ∙ a.1,
           )
 
   pub next_image : (image : Image) (new : ImagesView) (later : SourceView) → Answers (Ok (Some image)) → new.held ≡ kept.unread → Took middle later [] → Ends (Ok (Some image)) later
@@ -284,8 +293,16 @@ module _ {Sink : Type 0} (begun : Sink → ℕ → ℕ → Sink → Type 0) (giv
   next_none new later a held took ends =
       let e = ends tt (ended_kept after kept middle r.room (inr a.3) a.0.end) in
       let nothing : IsAtEnd (coming old source) = by_left e source.left refl in
-      (record { nothing = nothing; none = held ∙ a.3; ended = e }, some_before a.1, a.2)
+      (record { nothing = nothing; took = same; none = held ∙ a.3; ended = e }, some_before a.1, a.2)
     where
+      same : coming old source ≡ coming new later
+      same =
+          ap (λ (u : List ℕ). prepend_known u source.left) (sym r.held)
+          ∙ piece_coming before after (268435456 - old.judged - length old.held) source middle [] r.limit r.limited a.0.took r.same
+          ∙ ap (λ (u : List ℕ). prepend_known [] (prepend_known u middle.left)) (ended_unread after.unread (seen after.room middle) a.0.end ∙ sym a.3 ∙ sym held)
+          ∙ ap (λ (o : Option (List ℕ)). prepend_known [] (prepend_known new.held o)) (took ∙ sym (prepend_nothing later.left))
+          ∙ sym (prepend_nothing (coming new later))
+
       by_left : HasEnded later → (left : Option (List ℕ)) → source.left ≡ left → IsAtEnd (coming old source)
       by_left e None none = subst (λ (o : Option (List ℕ)). IsAtEnd (prepend_known old.held o)) (sym none) tt
       by_left e (Some all) told =

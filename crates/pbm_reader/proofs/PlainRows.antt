@@ -13,7 +13,7 @@ use Rattle.packed_rows.specs.PageLaws.{black_bit, row_of_page}
 use Rattle.pbm_reader.specs.Spelling.{IsRaster, SpellsPixels, pixels_page}
 use Rattle.pbm_reader.specs.Fault.{IsFrontOf}
 use Rattle.pbm_reader.specs.Given.{AfterRows, Stays, StandsBehind}
-use Rattle.pbm_reader.specs.Plain.{pixel_step, TookPixels, PixelsBegun, PixelsFail, ArePacked, TakesPixels}
+use Rattle.pbm_reader.specs.Plain.{pixel_step, TookPixels, PixelsBegun, PixelsFail, ArePacked, TookRow}
 use Rattle.pbm_reader.specs.Raster.{RasterFails, TookRaster, GivenTopRows}
 use Rattle.pbm_reader.proofs.Machines.{run, run_append, IsRead}
 use Rattle.pbm_reader.proofs.RasterWalk.{RasterState, raster_step, wanted, raster_machine, begun_open, wrong_stops, part_state, raster_is_read}
@@ -59,21 +59,21 @@ pixels_row width height y before row rest bytes bits below count len spelled pac
     ∙ get_or_append_left row rest 0 x (omega (arith, lt, len)) in
     packed.pixels_are x ∙ black_bit (get_or row x 0) (bits_low row bytes x spelled) ∙ ap (λ (n : ℕ). cond (eqb n 1) 1 0) (sym same))
 
-pub one_more_row : {Sink : Type 0} (given : Sink → List ℕ → Sink → Type 0) (old middle new : SourceView) (begin at end width height y : ℕ) (start sink next : Sink)
-    → IsGivingPixels given old middle begin at width height y start sink → y < height → TakesPixels given middle new at end width sink next → IsGivingPixels given old new begin end width height (y + 1) start next
-one_more_row given old middle new begin at end width height y start sink next g below t =
-    let row = t.row.pixels in
+pub one_more_row : {Sink : Type 0} (given : Sink → List ℕ → Sink → Type 0) (old middle new : SourceView) (begin at end width height y : ℕ) (bits : List ℕ) (start sink next : Sink)
+    → IsGivingPixels given old middle begin at width height y start sink → y < height → TookRow middle new at end width bits → given sink bits next → IsGivingPixels given old new begin end width height (y + 1) start next
+one_more_row given old middle new begin at end width height y bits start sink next g below t gives =
+    let row = t.pixels in
     record {
       pixels = g.pixels ++ row;
-      took = took_pixels old middle new begin at end g.pixels row g.took t.row.took;
-      count = omega (arith, length-append g.pixels row, g.count, t.row.count);
+      took = took_pixels old middle new begin at end g.pixels row g.took t.took;
+      count = omega (arith, length-append g.pixels row, g.count, t.count);
       rows = λ rest.
           let page = pixels_page width height ((g.pixels ++ row) ++ rest) in
           let P : ℕ → Type 0 = λ n. AfterRows given page n start next in
           let Q : List ℕ → Type 0 = λ l. AfterRows given (pixels_page width height l) y start sink in
           let before : AfterRows given page y start sink = subst Q (sym (append_assoc g.pixels row rest)) (g.rows (row ++ rest)) in
           let e : suc y ≡ y + 1 = omega arith in
-          subst P e (sink, t.bits, before, pixels_row width height y g.pixels row rest t.row.took.bytes t.bits below g.count t.row.count t.row.took.spelled t.row.packed, t.gives);
+          subst P e (sink, bits, before, pixels_row width height y g.pixels row rest t.took.bytes bits below g.count t.count t.took.spelled t.packed, gives);
     }
 
 -- pixels that have begun begin a raster

@@ -42,6 +42,12 @@ form_begins form bytes page s =
 pub image_begins : (bytes : List ℕ) → BeginsImage bytes → Begins (magic Raw) bytes
 image_begins bytes i = subst (λ (l : List ℕ). Begins (magic Raw) l) (sym i.whole) (begins_more (magic Raw) i.image i.rest (form_begins Raw i.image i.page i.is_image))
 
+pub no_image : BeginsImage [] → ⊥
+no_image i = let b = image_begins [] i in not_nil 80 (52 ∷ b.0) b.1
+  where
+    not_nil : (x : ℕ) (xs : List ℕ) → [] ≡ x ∷ xs → ⊥
+    not_nil x xs e = cc
+
 -- no bytes begin with both names
 pub one_name : (bytes : List ℕ) → Begins (magic Plain) bytes → Begins (magic Raw) bytes → ⊥
 one_name bytes a b = omega (arith, second_is 80 49 80 52 a.0 b.0 (sym a.1 ∙ b.1))

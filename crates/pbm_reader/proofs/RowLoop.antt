@@ -12,7 +12,7 @@ use Rattle.packed_rows.specs.Page.{row_len, pixel, IsPageSize, IsPackedRow, IsRo
 use Rattle.packed_rows.specs.PageLaws.{black_bit, row_of_page}
 use Rattle.pbm_reader.specs.Spelling.{raster_page}
 use Rattle.pbm_reader.specs.Given.{AfterRows, Stays, StandsBehind}
-use Rattle.pbm_reader.specs.Raster.{BytesFail, RasterFails, TookRaster, GivenTopRows, TakesRow}
+use Rattle.pbm_reader.specs.Raster.{BytesFail, RasterFails, TookCleared, TookRaster, GivenTopRows}
 use Rattle.layout_outside.specs.Views.{SourceView}
 use Rattle.layout_outside.specs.Taken.{Took}
 use Rattle.pbm_reader.proofs.TopRows.{Stopped}
@@ -55,22 +55,22 @@ cleared_is_row width height y part bits rest cleared below before len c =
     ∙ black_bit (pixel bits x) (bit_at-lt (get_or bits (x / 8) 0) (7 - x % 8))
     ∙ ap (λ (n : ℕ). cond (eqb n 1) 1 0) (sym same))
 
-pub one_more_row : {Sink : Type 0} (given : Sink → List ℕ → Sink → Type 0) (old middle new : SourceView) (width height y : ℕ) (start sink next : Sink)
-    → IsGiving given old middle width height y start sink → y < height → TakesRow given width middle new sink next → IsGiving given old new width height (y + 1) start next
-one_more_row given old middle new width height y start sink next g below row = record {
-  part = g.part ++ row.bits;
-  took = took_more old middle new g.part row.bits g.took row.took;
-  len = length-append g.part row.bits ∙ omega (arith, g.len, row.len);
+pub one_more_row : {Sink : Type 0} (given : Sink → List ℕ → Sink → Type 0) (old middle new : SourceView) (width height y : ℕ) (bits : List ℕ) (start sink next : Sink)
+    → IsGiving given old middle width height y start sink → y < height → TookCleared middle new width bits → given sink bits next → IsGiving given old new width height (y + 1) start next
+one_more_row given old middle new width height y bits start sink next g below row gives = record {
+  part = g.part ++ row.bytes;
+  took = took_more old middle new g.part row.bytes g.took row.took;
+  len = length-append g.part row.bytes ∙ omega (arith, g.len, row.len);
   rows = λ rest.
-      let P : ℕ → Type 0 = λ n. AfterRows given (raster_page width height ((g.part ++ row.bits) ++ rest)) n start next in
+      let P : ℕ → Type 0 = λ n. AfterRows given (raster_page width height ((g.part ++ row.bytes) ++ rest)) n start next in
       let Q : List ℕ → Type 0 = λ l. AfterRows given (raster_page width height l) y start sink in
-      let before : AfterRows given (raster_page width height ((g.part ++ row.bits) ++ rest)) y start sink = subst Q (sym (append_assoc g.part row.bits rest)) (g.rows (row.bits ++ rest)) in
+      let before : AfterRows given (raster_page width height ((g.part ++ row.bytes) ++ rest)) y start sink = subst Q (sym (append_assoc g.part row.bytes rest)) (g.rows (row.bytes ++ rest)) in
       let e : suc y ≡ y + 1 = omega arith in
-      subst P e (sink, row.cleared, before, cleared_is_row width height y g.part row.bits rest row.cleared below g.len row.len row.is_cleared, row.gives);
+      subst P e (sink, bits, before, cleared_is_row width height y g.part row.bytes rest bits below g.len row.len row.cleared, gives);
 }
 
 -- a raster takes few bytes
-raster_bound : (width height start : ℕ) → IsPageSize width height → start ≤ 65536 → start + height * row_len width < 268435456
+pub raster_bound : (width height start : ℕ) → IsPageSize width height → start ≤ 65536 → start + height * row_len width < 268435456
 raster_bound width height start s short =
     let row = row_len width in
     let area = s.area_bound in

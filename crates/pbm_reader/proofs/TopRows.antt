@@ -18,6 +18,8 @@ use Rattle.pbm_reader.specs.Raster.{BytesFail, GivenTopRows, TookRaster}
 use Rattle.pbm_reader.specs.Plain.{PixelsFail}
 use Rattle.pbm_reader.specs.Tail.{TailFails}
 use Rattle.pbm_reader.specs.Header.{TookHeader}
+use Rattle.pbm_reader.specs.Rows.{TookRows}
+use Rattle.pbm_reader.specs.declared.rows.PageRows.{PageRows}
 use Rattle.pbm_reader.specs.Reader.{TookImage}
 use Rattle.pbm_reader.proofs.Taken.{took_more, prepend_nothing, prepend_twice}
 
@@ -75,7 +77,7 @@ tail_stopped old new form at faults.Memory f = absurd f
 -- ---- the rows of a page
 
 -- all rows were given, and then the page was refused
-pub all_rows_given : {Sink : Type 0} (given : Sink → List ℕ → Sink → Type 0) (unchanged : Sink → Sink → Type 0) (old later new : SourceView) (header : Header) (end : ℕ) (empty after : Sink)
+all_rows_given : {Sink : Type 0} (given : Sink → List ℕ → Sink → Type 0) (unchanged : Sink → Sink → Type 0) (old later new : SourceView) (header : Header) (end : ℕ) (empty after : Sink)
     (fault : PageFault) → TookRaster given old later header.form header.size.width header.size.height header.len end empty after → TailFails later new header.form end fault
     → GivenTopRows given unchanged header.form header.size.width header.size.height header.len old new empty after fault
 all_rows_given given unchanged old later new header end empty after fault r f =
@@ -119,6 +121,14 @@ top_rows begun given unchanged old middle new header before empty after fault t 
       begins = begins.2;
       top = g.top;
     })
+
+-- a page whose rows were all given was refused behind them
+pub rows_top : {Sink : Type 0} (begun : Sink → ℕ → ℕ → Sink → Type 0) (given : Sink → List ℕ → Sink → Type 0) (unchanged : Sink → Sink → Type 0) (old later new : SourceView) (rows : PageRows)
+    (before after : Sink) (fault : PageFault) → TookRows begun given old later before after rows → TailFails later new rows.header.form rows.end fault
+    → AfterFault begun given unchanged old new before after fault
+rows_top begun given unchanged old later new rows before after fault t f =
+    top_rows begun given unchanged old t.middle new rows.header before t.empty after fault t.header t.begins
+    (all_rows_given given unchanged t.middle later new rows.header rows.end t.empty after fault t.raster f)
 
 -- ---- the same rows, seen otherwise
 

@@ -11,9 +11,9 @@ use Rattle.pbm_reader.specs.declared.fault.PageFault.TheVariants as faults
 use Rattle.pbm_reader.specs.declared.form.Form.{Form}
 use Rattle.pbm_reader.specs.declared.form.Form.TheVariants.{Plain, Raw}
 use Rattle.packed_rows.specs.Page.{Page, IsPageSize}
-use Rattle.pbm_reader.specs.Spelling.{IsHeader, IsRaster, MayFollow, SpellsRows, IsPage, Spells}
-use Rattle.pbm_reader.specs.Fault.{IsFrontOf, HasPageHeader, HasFault, IsTruncated, IsPixelFault, IsTrailing, IsInputTooLong}
-use Rattle.pbm_reader.specs.Images.{SpellsIn}
+use Rattle.pbm_reader.specs.Spelling.{magic, IsHeader, IsRaster, MayFollow, SpellsRows, IsPage, Spells}
+use Rattle.pbm_reader.specs.Fault.{Begins, IsFrontOf, HasPageHeader, HasFault, IsTruncated, IsPixelFault, IsTrailing, IsInputTooLong}
+use Rattle.pbm_reader.specs.Images.{AreUndecided, SpellsIn}
 use Rattle.pbm_reader.specs.Given.{AfterRows}
 use Rattle.pbm_reader.specs.Raster.{RasterFails, TookRaster}
 use Rattle.pbm_reader.specs.Tail.{TailFails, TookTail}
@@ -23,7 +23,9 @@ use Rattle.pbm_reader.specs.Header.{TookHeader}
 use Rattle.pbm_reader.specs.Reading.{HasReadCause, ReadsPage, Refuses}
 use Rattle.pbm_reader.proofs.Taken.{took_more, took_all, of_all, of_end}
 use Rattle.pbm_reader.proofs.Faults.{raster_ends}
-use Rattle.pbm_reader.proofs.OneFault.{one_fault, page_has_no_fault, page_undecided, cut_undecided, long_fault}
+use Rattle.pbm_reader.proofs.OneFault.{one_fault, page_has_no_fault, page_undecided, long_fault}
+use Rattle.pbm_reader.proofs.RawImages.{form_begins}
+use Rattle.pbm_reader.proofs.Undecided.{cut_open, plain_open}
 
 -- ---- refusals in the raster
 
@@ -76,6 +78,16 @@ long old new front behind taken took split len more part =
     let P : List ℕ → Type 0 = λ l. IsInputTooLong l in
     subst P (sym all) (long_fault front (behind ++ rest) len (omega (arith, more, length-append behind rest)) part))
 
+-- what was taken where a read fails in a raster
+pub raster_stops : (old middle new : SourceView) (header : Header) → TookHeader old middle header
+    → RasterFails middle new header.form header.size.width header.size.height header.len faults.ReadFault → (taken : List ℕ) × Took old new taken × AreUndecided taken
+raster_stops old middle new header t f =
+    let low = f.3 in (
+      t.bytes ++ f.0,
+      took_more old middle new t.bytes f.0 t.took f.1,
+      cut_open (t.bytes ++ f.0) (length t.bytes + length f.0) (cut header t.bytes f.0 (length t.bytes + length f.0) t.is_header t.size t.short f.2 refl (omega (arith, low, t.len))),
+    )
+
 pub raster_refuses : (old middle new : SourceView) (header : Header) (fault : PageFault) → TookHeader old middle header
     → RasterFails middle new header.form header.size.width header.size.height header.len fault → Refuses old new fault
 raster_refuses old middle new header (faults.Truncated at) t f =
@@ -89,12 +101,7 @@ raster_refuses old middle new header faults.InputTooLong t f =
     long old new (t.bytes ++ f.0) (f.1 ∷ []) (t.bytes ++ (f.0 ++ f.1 ∷ [])) (took_more old middle new t.bytes (f.0 ++ f.1 ∷ []) t.took f.2)
     (sym (append_assoc t.bytes f.0 (f.1 ∷ []))) total (omega arith)
     (inr (268435456, cut header t.bytes f.0 268435456 t.is_header t.size t.short f.3 (omega (arith, f.4, t.len)) (omega arith)))
-raster_refuses old middle new header faults.ReadFault t f =
-    let low = f.3 in (
-      t.bytes ++ f.0,
-      took_more old middle new t.bytes f.0 t.took f.1,
-      cut_undecided (t.bytes ++ f.0) (length t.bytes + length f.0) (cut header t.bytes f.0 (length t.bytes + length f.0) t.is_header t.size t.short f.2 refl (omega (arith, low, t.len))),
-    )
+raster_refuses old middle new header faults.ReadFault t f = let s = raster_stops old middle new header t f in (s.0, s.1, s.2.0)
 raster_refuses old middle new header faults.Memory t f = tt
 raster_refuses old middle new header (faults.Magic at) t f = absurd f
 raster_refuses old middle new header (faults.Header at) t f = absurd f
@@ -203,6 +210,18 @@ tail_refuses given old middle later new header end empty after (faults.TooLarge 
 tail_refuses given old middle later new header end empty after (faults.Truncated at) t r f = absurd f
 tail_refuses given old middle later new header end empty after (faults.Pixel at) t r f = absurd f
 tail_refuses given old middle later new header end empty after faults.Memory t r f = absurd f
+
+-- what was taken where a read fails behind a plain raster
+pub tail_stops : {Sink : Type 0} (given : Sink → List ℕ → Sink → Type 0) (old middle later new : SourceView) (header : Header) (end : ℕ) (empty after : Sink) → header.form ≡ Plain
+    → TookHeader old middle header → TookRaster given middle later header.form header.size.width header.size.height header.len end empty after
+    → TailFails later new header.form end faults.ReadFault → (taken : List ℕ) × Took old new taken × AreUndecided taken
+tail_stops given old middle later new header end empty after plain t r f =
+    let page = spells_in given old middle later header end empty after f.0 t r f.2 f.3 in
+    let all = t.bytes ++ (r.raster ++ f.0) in (
+      all,
+      took_three old middle later new t.bytes r.raster f.0 t.took r.took f.1,
+      plain_open all (r.page, page.0) (subst (λ (form : Form). Begins (magic form) all) plain (form_begins header.form all r.page page)),
+    )
 
 -- ---- a page
 

@@ -4,7 +4,6 @@ use Rattle.layout_outside.specs.Views.{SourceView}
 use Rattle.layout_outside.specs.Taken.{HasEnded, Took}
 use Rattle.pbm_reader.specs.declared.limits.TheConstants.{MAX_HEADER, MAX_NUMBER}
 use Rattle.pbm_reader.specs.declared.header.Header.{Header}
-use Rattle.pbm_reader.specs.declared.header.Told.{Told}
 use Rattle.pbm_reader.specs.Page.{IsPageSize}
 use Rattle.pbm_reader.specs.declared.form.Form.{Form}
 use Rattle.pbm_reader.specs.declared.form.Form.TheVariants.{Plain, Raw}
@@ -86,18 +85,6 @@ IsOfHeader faults.InputTooLong = ⊥
 IsOfHeader faults.TooManyImages = ⊥
 IsOfHeader faults.Memory = ⊥
 IsOfHeader fault = ⊤
-
--- a header was taken, of at most 65,536 bytes; a size above 999,999,999 is told as 999,999,999
-pub record TookSizes (old new : SourceView) (told : Told) : Type 0 where
-  pub bytes : List ℕ
-  pub took : Took old new bytes
-  pub width : ℕ
-  pub height : ℕ
-  pub is_header : IsHeader bytes told.form width height
-  pub width_told : told.width ≡ min width MAX_NUMBER
-  pub height_told : told.height ≡ min height MAX_NUMBER
-  pub len : told.len ≡ length bytes
-  pub short : length bytes ≤ MAX_HEADER
 
 -- a header that a page can have was taken, of at most 65,536 bytes
 pub record TookHeader (old new : SourceView) (header : Header) : Type 0 where

@@ -7,7 +7,7 @@ use Rattle.pbm_reader.specs.declared.form.Form.{Form}
 use Rattle.pbm_reader.specs.declared.form.Form.TheVariants.{Plain, Raw}
 use Rattle.packed_rows.specs.Page.{Page}
 use Rattle.pbm_reader.specs.Spelling.{Spells}
-use Rattle.pbm_reader.specs.Fault.{Begins, HasFaultWithin, IsTooLong}
+use Rattle.pbm_reader.specs.Fault.{Begins, DecidesNothing, HasFaultWithin, IsTooLong}
 
 -- the bytes spell the page in this form
 abbrev pub SpellsIn : Form → List ℕ → Page → Type 0
@@ -41,6 +41,10 @@ pub record BeginsImage (bytes : List ℕ) : Type 0 where
   pub rest : List ℕ
   pub whole : bytes ≡ image ++ rest
   pub is_image : SpellsIn Raw image page
+
+-- the bytes begin no raw image that is whole, and decide no fault of one page
+abbrev pub AreUndecided : List ℕ → Type 0
+AreUndecided bytes = DecidesNothing bytes × (BeginsImage bytes → ⊥)
 
 -- the raw images at the front of the input, as many as there are and 256 at most, and the bytes behind them
 pub record FrontImages (input : List ℕ) (pages : List Page) (images behind : List ℕ) : Type 0 where

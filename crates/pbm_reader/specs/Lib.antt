@@ -10,4 +10,5 @@ pub mod Header
 pub mod Raster
 pub mod Plain
 pub mod Tail
+pub mod Rows
 pub mod Reader

@@ -72,10 +72,3 @@ pub record TookRow (old new : SourceView) (start end width : ℕ) (bits : List �
   pub took : TookPixels old new start end pixels
   pub count : length pixels ≡ width
   pub packed : ArePacked width pixels bits
-
--- a row of pixels was taken, and the sink was given it
-pub record TakesPixels {Sink : Type 0} (given : Sink → List ℕ → Sink → Type 0) (old new : SourceView) (start end width : ℕ)
-    (before after : Sink) : Type 0 where
-  pub bits : List ℕ
-  pub row : TookRow old new start end width bits
-  pub gives : given before bits after

@@ -4,23 +4,33 @@ use Rattle.pbm_reader.specs.declared.limits.TheConstants.{MAX_INPUT}
 use Rattle.pbm_reader.specs.declared.fault.PageFault.{PageFault}
 use Rattle.pbm_reader.specs.declared.fault.PageFault.TheVariants as faults
 use Rattle.pbm_reader.specs.declared.form.Form.{Form}
-use Rattle.pbm_reader.specs.declared.form.Form.TheVariants.{Plain}
+use Rattle.pbm_reader.specs.declared.form.Form.TheVariants.{Plain, Raw}
 use Rattle.packed_rows.specs.Page.{Page, row_len, IsCleared}
 use Rattle.pbm_reader.specs.Spelling.{IsRaster, SpellsRows}
 use Rattle.pbm_reader.specs.Fault.{IsFrontOf}
+use Rattle.pbm_reader.specs.Plain.{PixelsFail, TookRow}
 use Rattle.pbm_reader.specs.Given.{AfterRows, IsGivenTop, StandsBehind}
 use Rattle.layout_outside.specs.Taken.{Took, TookAll}
 use Rattle.layout_outside.specs.Views.{SourceView}
 
--- a row was taken from the input, and the sink was given it with its padding bits cleared
-pub record TakesRow {Sink : Type 0} (given : Sink → List ℕ → Sink → Type 0) (width : ℕ) (old new : SourceView)
+-- a row was taken in the raw form, and its padding bits were cleared
+pub record TookCleared (old new : SourceView) (width : ℕ) (bits : List ℕ) : Type 0 where
+  pub bytes : List ℕ
+  pub took : Took old new bytes
+  pub len : length bytes ≡ row_len width
+  pub cleared : IsCleared width bytes bits
+
+-- a row was taken in this form, from one offset to another
+abbrev pub TookRowIn : Form → SourceView → SourceView → ℕ → ℕ → ℕ → List ℕ → Type 0
+TookRowIn Plain old new start end width bits = TookRow old new start end width bits
+TookRowIn Raw old new start end width bits = TookCleared old new width bits × (end ≡ start + row_len width)
+
+-- a row was taken, and the sink was given it
+pub record TakesRow {Sink : Type 0} (given : Sink → List ℕ → Sink → Type 0) (form : Form) (old new : SourceView) (start end width : ℕ)
     (before after : Sink) : Type 0 where
   pub bits : List ℕ
-  pub took : Took old new bits
-  pub len : length bits ≡ row_len width
-  pub cleared : List ℕ
-  pub is_cleared : IsCleared width bits cleared
-  pub gives : given before cleared after
+  pub row : TookRowIn form old new start end width bits
+  pub gives : given before bits after
 
 -- why fewer bytes than this length were read, from this offset on
 abbrev pub BytesFail : SourceView → SourceView → ℕ → ℕ → PageFault → Type 0
@@ -28,6 +38,11 @@ BytesFail old new at len (faults.Truncated end) = (part : List ℕ) × TookAll o
 BytesFail old new at len faults.ReadFault = (part : List ℕ) × Took old new part × (length part < len)
 BytesFail old new at len faults.Memory = (part : List ℕ) × Took old new part
 BytesFail old new at len fault = ⊥
+
+-- why a row was not taken in this form, from this offset on
+abbrev pub RowFails : Form → SourceView → SourceView → ℕ → ℕ → PageFault → Type 0
+RowFails Plain old new start width fault = PixelsFail old new start width fault
+RowFails Raw old new start width fault = BytesFail old new start (row_len width) fault
 
 -- the raster of a page was taken, up to this offset, and the sink was given its rows
 pub record TookRaster {Sink : Type 0} (given : Sink → List ℕ → Sink → Type 0) (old new : SourceView)

@@ -1,5 +1,5 @@
 -- A reader of several images in one input, and what its calls do.
-use Rattle.std.specs.Prelude.{◌≡◌, ◌≤◌, ◌<◌, ◌⊎◌, ℕ, ◌+◌, Bool, true, false, List, [], ◌++◌, length, Option, Some, None, Result, Ok, Err, IfSome, IfNone, IfOk, IfErr, codes, ⊤, ◌-◌}
+use Rattle.std.specs.Prelude.{◌≡◌, ◌≤◌, ◌<◌, ◌⊎◌, ℕ, ◌+◌, Bool, true, false, List, [], ◌∷◌, ◌++◌, length, Option, Some, None, Result, Ok, Err, IfSome, IfNone, IfOk, IfErr, codes, ⊤, ◌-◌}
 use Rattle.std.specs.Io.KnownBytes.{prepend_known, IsAtEnd}
 use Rattle.pbm_reader.specs.declared.limits.TheConstants.{MAX_IMAGES, MAX_INPUT}
 use Rattle.pbm_reader.specs.declared.fault.Size.{Size}
@@ -9,8 +9,8 @@ use Rattle.pbm_reader.specs.declared.form.Form.{Form}
 use Rattle.pbm_reader.specs.declared.form.Form.TheVariants.{Plain, Raw}
 use Rattle.pbm_reader.specs.declared.image.Image.{Image}
 use Rattle.packed_rows.specs.Page.{Page}
-use Rattle.pbm_reader.specs.Fault.{Begins, HasFaultWithin, HasLowPlace, DecidesNothing}
-use Rattle.pbm_reader.specs.Images.{SpellsIn, AreImages, BeginsImage, HasPagesFault, behind_bytes}
+use Rattle.pbm_reader.specs.Fault.{Begins, HasFaultWithin, HasLowPlace}
+use Rattle.pbm_reader.specs.Images.{SpellsIn, AreImages, AreUndecided, BeginsImage, HasPagesFault, behind_bytes}
 use Rattle.pbm_reader.specs.Given.{AfterFault, AfterPage}
 use Rattle.pbm_reader.specs.Feed.{PieceView, is_limited, unseen, whole, with_unread}
 use Rattle.layout_outside.specs.Views.{SourceView}
@@ -58,7 +58,7 @@ pub record FailsOn (is_first : Bool) (new : SourceView) (fault : PageFault) (byt
 
 -- why an image was not read
 abbrev pub ImageFails : Bool → SourceView → SourceView → PageFault → Type 0
-ImageFails is_first old new faults.ReadFault = (taken : List ℕ) × Took old new taken × DecidesNothing taken × MayBegin is_first taken
+ImageFails is_first old new faults.ReadFault = (taken : List ℕ) × Took old new taken × AreUndecided taken × MayBegin is_first taken
 ImageFails is_first old new faults.Memory = ⊤
 ImageFails is_first old new faults.InputTooLong = IfSome old.left (λ bytes. MAX_INPUT < length bytes)
 ImageFails is_first old new fault = IfSome old.left (λ bytes. FailsOn is_first new fault bytes)
@@ -108,7 +108,8 @@ is_plain Plain = true
 is_plain Raw = false
 
 -- an image was taken of what came, its last byte and no more, and is judged and counted; the sink was given its page. A plain one stands
--- alone, and is taken to the end of the input.
+-- alone, and is taken to the end of the input. A caller that keeps the images so far, as the fact `WereImages` with their pages, has it of
+-- one image more by `more` where that is raw, and by `first` has kept none where it is plain.
 pub record GivesImage {Sink : Type 0} (begun : Sink → ℕ → ℕ → Sink → Type 0) (given : Sink → List ℕ → Sink → Type 0)
     (old new : ImagesView) (source later : SourceView) (before after : Sink) (size : Size) : Type 0 where
   pub form : Form
@@ -126,11 +127,15 @@ pub record GivesImage {Sink : Type 0} (begun : Sink → ℕ → ℕ → Sink →
   pub alone : form ≡ Plain → old.count ≡ 0
   pub all : form ≡ Plain → IsAtEnd (coming new later)
   pub ended : new.has_ended ≡ is_plain form
+  pub more : form ≡ Raw → (images : List ℕ) → (were : WereImages old.count old.judged images)
+      → (now : WereImages new.count new.judged (images ++ image)) × (now.pages ≡ were.pages ++ page ∷ [])
+  pub first : form ≡ Plain → (images : List ℕ) → WereImages old.count old.judged images → images ≡ []
 
--- nothing comes next behind an image, and the source has answered its end
-pub record EndsBehind (old new : ImagesView) (source : SourceView) : Type 0 where
+-- nothing comes next behind an image, nothing is taken of it, and the source has answered its end
+pub record EndsBehind (old new : ImagesView) (source later : SourceView) : Type 0 where
   pub some : 0 < old.count
   pub nothing : IsAtEnd (coming old source)
+  pub took : coming old source ≡ coming new later
   pub ended : new.has_ended ≡ true
 
 -- where the source has answered its end, in this call or before it, nothing is left
@@ -138,10 +143,12 @@ pub record TellsEnd (old new : ImagesView) (later : SourceView) : Type 0 where
   pub nothing : new.has_ended ≡ true → IsAtEnd later.left
   pub answered : new.has_ended ≡ true → old.has_ended ≡ false → later.ended ≡ true
 
--- why no image was given: what comes has this fault behind the images before it; or a read failed, and the bytes taken decide none
+-- why no image was given: what comes has this fault behind the images before it; or a read failed, and the bytes taken begin no whole
+-- image and decide no fault, and nothing is held
 abbrev pub RefusesNext : ImagesView → ImagesView → SourceView → SourceView → PageFault → Type 0
 RefusesNext old new source later faults.ReadFault =
     (taken : List ℕ) × (coming old source ≡ prepend_known taken (coming new later)) × DecidesNoFault old.count old.judged taken
+    × (IsNextImage old.count old.judged taken → ⊥) × (new.held ≡ [])
 RefusesNext old new source later faults.Memory = ⊤
 RefusesNext old new source later fault = IfSome (coming old source) (λ bytes. IsNextFault old.count old.judged bytes fault)
 
@@ -240,5 +247,6 @@ pub record TakesImage {Sink : Type 0} (begun : Sink → ℕ → ℕ → Sink →
 -- nothing comes next, nothing is held, and the source answered its end
 pub record EndsHere (old new : ImagesView) (source later : SourceView) : Type 0 where
   pub nothing : IsAtEnd (coming old source)
+  pub took : coming old source ≡ coming new later
   pub none : new.held ≡ []
   pub ended : HasEnded later

@@ -5,8 +5,9 @@ ghost use Rattle.pbm_reader.specs.Reading.{HasReadCause, Refuses};
 ghost use Rattle.layout_outside.specs.Views.{SourceView};
 ghost use Rattle.layout_outside.specs.Taken.{HasEnded, Took, TookAll};
 ghost use Rattle.pbm_reader.specs.Spelling.{magic};
-ghost use Rattle.pbm_reader.specs.Header.{wrong_byte, missing_byte, IsOfHeader, NameFails, TookHeader, TookSizes};
+ghost use Rattle.pbm_reader.specs.Header.{wrong_byte, missing_byte, IsOfHeader, NameFails, TookHeader};
 ghost use Rattle.pbm_reader.specs.Fault.{HasLowPlace, IsSizeFault};
+ghost use Rattle.pbm_reader.specs.Images.{AreUndecided};
 
 use crate::fault::{PageFault, Size};
 use crate::feed::Feed;
@@ -21,18 +22,6 @@ use layout_outside::Source;
 pub struct Header {
     pub form: Form,
     pub size: Size,
-    /// In bytes.
-    pub len: u64,
-}
-
-/// What a header says, and how many bytes it takes. A size is at most `MAX_NUMBER`.
-#[derive(Debug, Clone, Copy, PartialEq, Eq, Drop)]
-pub struct Told {
-    pub form: Form,
-    /// In pixels.
-    pub width: u32,
-    /// In pixels.
-    pub height: u32,
     /// In bytes.
     pub len: u64,
 }
@@ -82,43 +71,6 @@ pub(crate) fn read_name<S: Source>(feed: &mut Feed<'_, S>) -> Result<Option<Form
     }
 }
 
-/// Reads a header to its last byte, behind the name of its form, whatever sizes it says.
-fn read_told<S: Source>(feed: &mut Feed<'_, S>, form: Form) -> Result<Told, PageFault>
-    ensures told { IfOk result (λ told. (first : SourceView) → Took first feed.old.source (magic form)
-        → TookSizes first feed.new.source told) }
-    ensures fault { IfErr result (λ fault. (first : SourceView) → Took first feed.old.source (magic form)
-        → Refuses first feed.new.source fault) }
-    ensures of_header { IfErr result IsOfHeader }
-    ensures ended { (at : ℕ) → result ≡ Err (PageFault.Truncated at) → HasEnded feed.new.source }
-    ensures form { IfOk result (λ told. told.form ≡ form) }
-    ensures drained { result ≡ Err PageFault.ReadFault → feed.new.unread ≡ [] }
-    ensures same { feed.new.borrow ≡ feed.old.borrow }
-    ensures cause { HasReadCause feed.old.source feed.new.source result }
-{
-    let mut state = HeaderState::Named(form);
-    for at in 2..MAX_HEADER {
-        let Some(byte) = feed.next_byte()? else {
-            return Err(missing_byte(state, at));
-        };
-        let Some(next) = next_state(state, byte) else {
-            return Err(wrong_byte(state, at));
-        };
-        if let HeaderState::Whole(_, width, height) = next {
-            return Ok(Told {
-                form,
-                width,
-                height,
-                len: at + 1,
-            });
-        }
-        state = next;
-    }
-    match feed.next_byte()? {
-        Some(_) => Err(PageFault::HeaderTooLong),
-        None => Err(PageFault::Truncated { at: MAX_HEADER }),
-    }
-}
-
 /// The size of a page with these sides, or why no page has them.
 fn page_size(width: u32, height: u32) -> Result<Size, PageFault>
     ensures size { IfOk result (λ size. IsPageSize width height × (size.width ≡ width) × (size.height ≡ height)) }
@@ -142,6 +94,8 @@ pub(crate) fn read_sizes<S: Source>(feed: &mut Feed<'_, S>, form: Form) -> Resul
         → TookHeader first feed.new.source header) }
     ensures fault { IfErr result (λ fault. (first : SourceView) → Took first feed.old.source (magic form)
         → Refuses first feed.new.source fault) }
+    ensures cut { result ≡ Err PageFault.ReadFault → (first : SourceView) → Took first feed.old.source (magic form)
+        → (taken : List ℕ) × Took first feed.new.source taken × AreUndecided taken }
     ensures of_header { IfErr result IsOfHeader }
     ensures ended { (at : ℕ) → result ≡ Err (PageFault.Truncated at) → HasEnded feed.new.source }
     ensures form { IfOk result (λ header. header.form ≡ form) }
@@ -149,25 +103,26 @@ pub(crate) fn read_sizes<S: Source>(feed: &mut Feed<'_, S>, form: Form) -> Resul
     ensures same { feed.new.borrow ≡ feed.old.borrow }
     ensures cause { HasReadCause feed.old.source feed.new.source result }
 {
-    let told = read_told(feed, form)?;
-    let size = page_size(told.width, told.height)?;
-    Ok(Header {
-        form,
-        size,
-        len: told.len,
-    })
-}
-
-/// Reads a header, with sizes that a page can have.
-pub(crate) fn read_header<S: Source>(feed: &mut Feed<'_, S>) -> Result<Header, PageFault>
-    ensures header { IfOk result (TookHeader feed.old.source feed.new.source) }
-    ensures fault { IfErr result (Refuses feed.old.source feed.new.source) }
-    ensures drained { result ≡ Err PageFault.ReadFault → feed.new.unread ≡ [] }
-    ensures same { feed.new.borrow ≡ feed.old.borrow }
-    ensures cause { HasReadCause feed.old.source feed.new.source result }
-{
-    let Some(form) = read_name(feed)? else {
-        return Err(PageFault::Magic { at: 0 });
-    };
-    read_sizes(feed, form)
+    let mut state = HeaderState::Named(form);
+    for at in 2..MAX_HEADER {
+        let Some(byte) = feed.next_byte()? else {
+            return Err(missing_byte(state, at));
+        };
+        let Some(next) = next_state(state, byte) else {
+            return Err(wrong_byte(state, at));
+        };
+        if let HeaderState::Whole(_, width, height) = next {
+            let size = page_size(width, height)?;
+            return Ok(Header {
+                form,
+                size,
+                len: at + 1,
+            });
+        }
+        state = next;
+    }
+    match feed.next_byte()? {
+        Some(_) => Err(PageFault::HeaderTooLong),
+        None => Err(PageFault::Truncated { at: MAX_HEADER }),
+    }
 }

@@ -13,10 +13,10 @@ ghost use Rattle.pbm_reader.specs.Reader.{ImageFails, MayBe, TookImage};
 use crate::fault::{PageFault, Size};
 use crate::feed::{Feed, Piece};
 use crate::form::Form;
-use crate::header::{read_name, read_sizes};
+use crate::header::read_name;
 use crate::limits::MAX_INPUT;
-use crate::page::read_raster;
 use crate::row_sink::RowSink;
+use crate::rows::read_rows;
 use crate::tail::read_tail;
 use layout_outside::Source;
 use std::alloc::Global;
@@ -88,13 +88,11 @@ fn read_named<S: Source, R: RowSink>(
     ensures same { feed.new.borrow ≡ feed.old.borrow }
     ensures cause { HasReadCause feed.old.source feed.new.source result }
 {
-    let header = read_sizes(feed, form)?;
-    rows.begin(header.size.width, header.size.height)?;
-    let end = read_raster(alloc, feed, header, rows)?;
-    let len = read_behind(feed, form, end)?;
+    let read = read_rows(alloc, feed, form, rows)?;
+    let len = read_behind(feed, form, read.end)?;
     Ok(Image {
         form,
-        size: header.size,
+        size: read.header.size,
         len,
     })
 }

@@ -99,14 +99,17 @@ impl Images {
         ensures image { IfOk result (λ next. IfSome next (GivesImage R.begun R.given self.old self.new (S.view src.old) (S.view src.new)
             rows.old rows.new)) }
         // The input ends behind an image.
-        ensures none { IfOk result (λ next. IfNone next (EndsBehind self.old self.new (S.view src.old) × (rows.new ≡ rows.old))) }
-        // What comes has just this fault behind the images before it; or a read failed, and the bytes taken decide no fault.
+        ensures none { IfOk result (λ next. IfNone next (EndsBehind self.old self.new (S.view src.old) (S.view src.new) × (rows.new ≡ rows.old))) }
+        // What comes has just this fault behind the images before it; or a read failed, and the bytes taken begin no whole image and
+        // decide no fault.
         ensures fault { IfErr result (RefusesNext self.old self.new (S.view src.old) (S.view src.new)) }
         // After a fault the sink was given nothing, or top rows that the bytes before the fault spell whole.
         ensures top { IfErr result (AfterNextFault R.begun R.given R.unchanged self.old self.new (S.view src.old) (S.view src.new)
             rows.old rows.new) }
-        // Where the end was answered nothing is read.
-        ensures quiet { self.old.has_ended ≡ true → src.new ≡ src.old }
+        // Where the end was answered nothing is read, and it is answered again. Nor is anything read where a byte is held behind as many
+        // images as there may be.
+        ensures quiet { (self.old.has_ended ≡ true) ⊎ ((self.old.count ≡ MAX_IMAGES) × (0 < length self.old.held)) → src.new ≡ src.old }
+        ensures ended { self.old.has_ended ≡ true → result ≡ Ok None }
         ensures open { self.new.is_open ≡ is_given result }
         ensures called { self.new.gave_byte ≡ false }
         ensures count { is_given result ≡ false → self.new.count ≡ self.old.count }
@@ -143,11 +146,12 @@ impl Images {
         requires end { self.old.has_ended ≡ true → IsAtEnd (S.view src.old).left }
         ensures image { IfOk result (λ next. IfSome next (GivesImage R.begun R.given self.old self.new (S.view src.old) (S.view src.new)
             rows.old rows.new)) }
-        ensures none { IfOk result (λ next. IfNone next (EndsBehind self.old self.new (S.view src.old) × (rows.new ≡ rows.old))) }
+        ensures none { IfOk result (λ next. IfNone next (EndsBehind self.old self.new (S.view src.old) (S.view src.new) × (rows.new ≡ rows.old))) }
         ensures fault { IfErr result (RefusesNext self.old self.new (S.view src.old) (S.view src.new)) }
         ensures top { IfErr result (AfterNextFault R.begun R.given R.unchanged self.old self.new (S.view src.old) (S.view src.new)
             rows.old rows.new) }
-        ensures quiet { self.old.has_ended ≡ true → src.new ≡ src.old }
+        ensures quiet { (self.old.has_ended ≡ true) ⊎ ((self.old.count ≡ MAX_IMAGES) × (0 < length self.old.held)) → src.new ≡ src.old }
+        ensures ended { self.old.has_ended ≡ true → result ≡ Ok None }
         ensures called { self.new.gave_byte ≡ false }
         ensures count { is_given result ≡ false → self.new.count ≡ self.old.count }
         ensures end { TellsEnd self.old self.new (S.view src.new) }
@@ -176,8 +180,10 @@ impl Images {
         requires open { self.old.has_ended ≡ false }
         requires full { self.old.count ≡ MAX_IMAGES }
         ensures end { OnOk result (IsAtEnd (coming self.old (S.view src.old)) × HasEnded (S.view src.new) × (self.new.has_ended ≡ true)) }
+        ensures took { OnOk result (coming self.old (S.view src.old) ≡ coming self.new (S.view src.new)) }
         ensures fault { IfErr result (RefusesNext self.old self.new (S.view src.old) (S.view src.new)) }
         ensures no_place { IfErr result (λ fault. (len : ℕ) → fault ≡ behind_bytes len fault) }
+        ensures quiet { 0 < length self.old.held → src.new ≡ src.old }
         ensures open { OnErr result (self.new.has_ended ≡ false) }
         ensures same { HasSamePlace self.old self.new }
         ensures cause { HasReadCause (S.view src.old) (S.view src.new) result }
@@ -237,24 +243,7 @@ impl Images {
         ensures cause { HasReadCause (S.view src.old) (S.view src.new) result }
     {
         self.gave_byte = true;
-        let next = self.next_byte(src);
-        self.is_open = matches!(next, Ok(Some(_)));
-        next
-    }
-
-    /// The next byte within the limit of an input.
-    fn next_byte<S: Source>(&mut self, src: &mut S) -> Result<Option<u8>, PageFault>
-        requires end { self.old.has_ended ≡ true → IsAtEnd (S.view src.old).left }
-        requires called { self.old.gave_byte ≡ true }
-        ensures byte { IfOk result (λ next. IfSome next (λ byte. Judges self.old self.new (S.view src.old) (S.view src.new) (byte ∷ []))) }
-        ensures none { IfOk result (λ next. IfNone next (IsAtEnd (coming self.old (S.view src.old)) × (self.new.has_ended ≡ true))) }
-        ensures fault { IfErr result (RefusesByte self.old self.new (S.view src.old) (S.view src.new)) }
-        ensures quiet { (0 < length self.old.held) ⊎ (self.old.has_ended ≡ true) → src.new ≡ src.old }
-        ensures called { self.new.gave_byte ≡ true }
-        ensures count { self.new.count ≡ self.old.count }
-        ensures end { TellsEnd self.old self.new (S.view src.new) }
-        ensures cause { HasReadCause (S.view src.old) (S.view src.new) result }
-    {
+        self.is_open = false;
         if self.has_ended {
             return Ok(None);
         }
@@ -267,7 +256,10 @@ impl Images {
         }
         let next = self.take_byte(src)?;
         match next {
-            Some(_) => self.judged += 1,
+            Some(_) => {
+                self.judged += 1;
+                self.is_open = true;
+            }
             None => self.has_ended = true,
         }
         Ok(next)
@@ -297,8 +289,10 @@ impl Images {
         requires open { self.old.has_ended ≡ false }
         requires called { (self.old.gave_byte ≡ true) ⊎ (0 < self.old.count) }
         ensures end { IfOk result (λ ends. IsTrue ends → IsAtEnd (coming self.old (S.view src.old)) × HasEnded (S.view src.new)) }
+        ensures took { IfOk result (λ ends. IsTrue ends → coming self.old (S.view src.old) ≡ coming self.new (S.view src.new)) }
         ensures more { IfOk result (λ ends. IsFalse ends → IfSome (coming self.old (S.view src.old)) (λ bytes. 0 < length bytes)) }
         ensures err { OnErr result ((coming self.old (S.view src.old) ≡ coming self.new (S.view src.new)) × (self.new.has_ended ≡ false)) }
+        ensures none { OnErr result (self.new.held ≡ []) }
         ensures ended { IfOk result (λ ends. self.new.has_ended ≡ ends) }
         ensures quiet { 0 < length self.old.held → src.new ≡ src.old }
         ensures same { HasSamePlace self.old self.new }

@@ -15,6 +15,7 @@ mod page;
 mod plain;
 mod raster;
 mod row_sink;
+mod rows;
 mod state;
 mod tail;
 #[cfg(test)]

@@ -2,8 +2,6 @@
 ghost use Rattle.std.specs.Prelude.{◌≡◌, ◌≤◌, ℕ, List, [], Some, IfOk, IfErr, OnErr, IsOkUnless};
 ghost use Rattle.layout_outside.specs.Causes.{Rose};
 ghost use Rattle.pbm_reader.specs.declared.fault.PageFault.{PageFault};
-ghost use Rattle.pbm_reader.specs.Page.{IsPageSize};
-ghost use Rattle.pbm_reader.specs.Raster.{GivenTopRows, RasterFails, TookRaster};
 ghost use Rattle.pbm_reader.specs.Spelling.{IsPage};
 ghost use Rattle.pbm_reader.specs.Fault.{HasFault};
 ghost use Rattle.pbm_reader.specs.Given.{AfterFault};
@@ -11,12 +9,9 @@ ghost use Rattle.pbm_reader.specs.Reading.{AnswersFault, HasReadCause, ReadsPage
 
 use crate::fault::{PageFault, Size};
 use crate::feed::{Feed, Piece};
-use crate::form::Form;
-use crate::header::{Header, read_header};
-use crate::limits::MAX_HEADER;
-use crate::plain::read_plain_raster;
-use crate::raster::read_raw_raster;
+use crate::header::read_name;
 use crate::row_sink::RowSink;
+use crate::rows::read_rows;
 use crate::tail::read_tail;
 use layout_outside::Source;
 use std::alloc::Global;
@@ -67,37 +62,10 @@ fn read_from<S: Source, R: RowSink>(
     ensures same { feed.new.borrow ≡ feed.old.borrow }
     ensures cause { HasReadCause feed.old.source feed.new.source result }
 {
-    let header = read_header(feed)?;
-    rows.begin(header.size.width, header.size.height)?;
-    let end = read_raster(alloc, feed, header, rows)?;
-    read_tail(feed, header.form, end)?;
-    Ok(header.size)
-}
-
-/// Reads the rows of a page in the form that its header names, gives each to the sink, and answers
-/// the offset of their end.
-pub(crate) fn read_raster<S: Source, R: RowSink>(
-    alloc: Global,
-    feed: &mut Feed<'_, S>,
-    header: Header,
-    rows: &mut R,
-) -> Result<u64, PageFault>
-    requires short { header.len ≤ MAX_HEADER }
-    requires size { IsPageSize header.size.width header.size.height }
-    requires width { R.width_of rows.old ≡ header.size.width }
-    requires rows { R.rows_left rows.old ≡ header.size.height }
-    ensures ok { IfOk result (λ end. TookRaster R.given feed.old.source
-        feed.new.source header.form header.size.width header.size.height header.len end rows.old rows.new) }
-    ensures fault { IfErr result (RasterFails feed.old.source
-        feed.new.source header.form header.size.width header.size.height header.len) }
-    ensures top { IfErr result (GivenTopRows R.given R.unchanged header.form header.size.width header.size.height header.len
-        feed.old.source feed.new.source rows.old rows.new) }
-    ensures drained { result ≡ Err PageFault.ReadFault → feed.new.unread ≡ [] }
-    ensures same { feed.new.borrow ≡ feed.old.borrow }
-    ensures cause { HasReadCause feed.old.source feed.new.source result }
-{
-    match header.form {
-        Form::Plain => read_plain_raster(alloc, feed, header, rows),
-        Form::Raw => read_raw_raster(alloc, feed, header, rows),
-    }
+    let Some(form) = read_name(feed)? else {
+        return Err(PageFault::Magic { at: 0 });
+    };
+    let read = read_rows(alloc, feed, form, rows)?;
+    read_tail(feed, read.header.form, read.end)?;
+    Ok(read.header.size)
 }

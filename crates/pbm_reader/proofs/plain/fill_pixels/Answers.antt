@@ -25,12 +25,9 @@ put_pixel-requires g c =
 
 pub loop-x-preserved : goal.loop-x-preserved
 loop-x-preserved g c =
-    let old = c.args.feed.now.source in
-    let middle = c.loop-x.feed.source in
-    let new = c.next_pixel.new.feed.source in
     let took = c.in_ok-pixel.ensures.pixel in
     record {
-      filling = filling_on old middle new c.args.start c.loop-x.at c.in_ok-pixel.pixel.end c.loop-x.x c.in_ok-pixel.pixel.is_black c.loop-x.row c.put_pixel.new.row c.loop-x.invariant.filling
+      filling = filling_on c.args.feed.now.source c.loop-x.feed.source c.next_pixel.new.feed.source c.args.start c.loop-x.at c.in_ok-pixel.pixel.end c.loop-x.x c.in_ok-pixel.pixel.is_black c.loop-x.row c.put_pixel.new.row c.loop-x.invariant.filling
           took c.put_pixel.ensures.pixels;
       buffer = c.put_pixel.ensures.len ∙ c.loop-x.invariant.buffer;
       low = took.low;
@@ -41,10 +38,7 @@ loop-x-preserved g c =
 pub returns-in_err-pixel-clause-fault : goal.returns-in_err-pixel-clause-fault
 returns-in_err-pixel-clause-fault g c =
     let p = err_from_is_err_and c.from_residual.result c.from_residual.ensures.1 in
-    let old = c.args.feed.now.source in
-    let middle = c.loop-x.feed.source in
-    let new = c.next_pixel.new.feed.source in
-    rw (p.1, p.2) (filling_fails old middle new c.args.start c.loop-x.at c.loop-x.x c.args.width c.loop-x.row c.in_err-pixel.field-0.0 c.loop-x.invariant.filling (omega arith) c.in_err-pixel.ensures.fault)
+    rw (p.1, p.2) (filling_fails c.args.feed.now.source c.loop-x.feed.source c.next_pixel.new.feed.source c.args.start c.loop-x.at c.loop-x.x c.args.width c.loop-x.row c.in_err-pixel.field-0.0 c.loop-x.invariant.filling (omega arith) c.in_err-pixel.ensures.fault)
 
 pub returns-clause-ok : goal.returns-clause-ok
 returns-clause-ok g c =

@@ -14,10 +14,7 @@ loop-at-init g c = record { between = between_begins c.args.feed.now.source c.ar
 pub returns-in_err-byte-clause-fault : goal.returns-in_err-byte-clause-fault
 returns-in_err-byte-clause-fault g c =
     let p = err_from_is_err_and c.from_residual.result c.from_residual.ensures.1 in
-    let old = c.args.feed.now.source in
-    let middle = c.loop-at.feed.source in
-    let new = c.next_byte.new.self.source in
-    rw (p.1, p.2) (between_unread old middle new c.args.start c.loop-at.at c.loop-at.in_comment c.loop-at.invariant.between c.in_err-byte.ensures.err (omega arith))
+    rw (p.1, p.2) (between_unread c.args.feed.now.source c.loop-at.feed.source c.next_byte.new.self.source c.args.start c.loop-at.at c.loop-at.in_comment c.loop-at.invariant.between c.in_err-byte.ensures.err (omega arith))
 
 pub returns-in_default-clause-fault : goal.returns-in_default-clause-fault
 returns-in_default-clause-fault g c =
@@ -51,20 +48,14 @@ returns-in-Found-clause-pixel g c =
 
 pub returns-in-Wrong-clause-fault : goal.returns-in-Wrong-clause-fault
 returns-in-Wrong-clause-fault g c =
-    let old = c.args.feed.now.source in
-    let middle = c.loop-at.feed.source in
-    let new = c.next_byte.new.self.source in
-    let took = some_of c.in_ok-byte.field-0 c.in-Some.byte (λ byte. Took middle new (byte ∷ [])) c.in-Some.is c.in_ok-byte.ensures.byte in
+    let took = some_of c.in_ok-byte.field-0 c.in-Some.byte (λ byte. Took c.loop-at.feed.source c.next_byte.new.self.source (byte ∷ [])) c.in-Some.is c.in_ok-byte.ensures.byte in
     let step : pixel_step c.loop-at.in_comment c.in-Some.byte ≡ Wrong = sym c.pixel_step.ensures ∙ c.in-Wrong.is in
-    between_wrong old middle new c.args.start c.loop-at.at c.in-Some.byte c.loop-at.in_comment c.loop-at.invariant.between took step (omega arith)
+    between_wrong c.args.feed.now.source c.loop-at.feed.source c.next_byte.new.self.source c.args.start c.loop-at.at c.in-Some.byte c.loop-at.in_comment c.loop-at.invariant.between took step (omega arith)
 
 pub returns-in_err-next_byte-clause-fault : goal.returns-in_err-next_byte-clause-fault
 returns-in_err-next_byte-clause-fault g c =
     let p = err_from_is_err_and c.from_residual-in_err-next_byte.result c.from_residual-in_err-next_byte.ensures.1 in
-    let old = c.args.feed.now.source in
-    let middle = c.loop-at.feed.source in
-    let new = c.next_byte-2.new.self.source in
-    rw (p.1, p.2) (between_unread old middle new c.args.start c.loop-at.at c.loop-at.in_comment c.loop-at.invariant.between c.in_err-next_byte.ensures.err (omega arith))
+    rw (p.1, p.2) (between_unread c.args.feed.now.source c.loop-at.feed.source c.next_byte-2.new.self.source c.args.start c.loop-at.at c.loop-at.in_comment c.loop-at.invariant.between c.in_err-next_byte.ensures.err (omega arith))
 
 pub returns-in-Some-2-clause-fault : goal.returns-in-Some-2-clause-fault
 returns-in-Some-2-clause-fault g c =

@@ -22,11 +22,6 @@ returns-in_ok-self-inside-in-Some-clause-bytes g c =
 
 pub returns-in_ok-self-inside-in-Some-clause-unseen : goal.returns-in_ok-self-inside-in-Some-clause-unseen
 returns-in_ok-self-inside-in-Some-clause-unseen g c =
-    let old = g.S.Source.view c.args.src.now in
-    let new = g.S.Source.view c.read_within.new.src in
     let room = c.in-Some.room in
-    let count = c.in_ok-self-inside-in-Some.field-0 in
     let read = c.in_ok-self-inside-in-Some.ensures.read in
-    let limit : c.args.self.now.room ≡ Some room = ap (λ (v : PieceView). v.room) (sym c.self.view_is) ∙ c.in-Some.is in
-    let P : Option ℕ → Type 0 = λ r. unseen (Some (room - count)) new ≡ unseen r old in
-    subst P (sym limit) (unseen_part old new c.read_within.new.bytes room count c.in_ok-self-inside-in-Some.ensures.fits read.bound read.bytes)
+    subst (λ (r : Option ℕ). unseen (Some (room - c.in_ok-self-inside-in-Some.field-0)) (g.S.Source.view c.read_within.new.src) ≡ unseen r (g.S.Source.view c.args.src.now)) (sym (ap (λ (v : PieceView). v.room) (sym c.self.view_is) ∙ c.in-Some.is)) (unseen_part (g.S.Source.view c.args.src.now) (g.S.Source.view c.read_within.new.src) c.read_within.new.bytes room c.in_ok-self-inside-in-Some.field-0 c.in_ok-self-inside-in-Some.ensures.fits read.bound read.bytes)

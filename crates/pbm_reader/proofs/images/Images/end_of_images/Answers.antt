@@ -11,7 +11,7 @@ returns-in_err-ends_here-clause-fault g c =
     let p = err_from_is_err_and c.from_residual.result c.from_residual.ensures.1 in
     let old = c.args.self.now in
     let low : old.judged ≤ 268435456 = search rules in
-    rw (p.1, p.2) ([], c.in_err-ends_here.ensures.err.0 ∙ prepend_nothing _, last_undecided old.count old.judged c.requires.full low)
+    rw (p.1, p.2) ([], c.in_err-ends_here.ensures.err.0 ∙ prepend_nothing _, last_undecided old.count old.judged c.requires.full low, (λ n. let fewer = n.fewer in omega (arith, fewer, c.requires.full)), c.in_err-ends_here.ensures.none)
 
 pub returns-then-is_full-clause-fault : goal.returns-then-is_full-clause-fault
 returns-then-is_full-clause-fault g c =

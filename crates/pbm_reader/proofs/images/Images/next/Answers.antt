@@ -1,5 +1,14 @@
-use Rattle.pbm_reader.proofs.NextLaws.{given_next, none_next, complete_next, faulty_next}
+use Rattle.std.proofs.Common.{ap}
+use Rattle.pbm_reader.specs.Reader.{ImagesView}
+use Rattle.pbm_reader.proofs.NextLaws.{image_next, given_next, none_next, complete_next, faulty_next}
 use Rattle.pbm_reader.proofs.images.Images.next.Goals as goal
+
+pub returns-clause-image : goal.returns-clause-image
+returns-clause-image g c =
+    let is = c.self.view_is in
+    image_next g.R.RowSink.begun g.R.RowSink.given c.args.self.now c.next_size-result.new.self (g.S.Source.view c.args.src.now) (g.S.Source.view c.next_size-result.new.src) c.args.rows.now
+    c.next_size-result.new.rows _ c.next_size-result.result (ap (λ (v : ImagesView). v.judged) is) (ap (λ (v : ImagesView). v.count) is) (ap (λ (v : ImagesView). v.held) is)
+    (ap (λ (v : ImagesView). v.has_ended) is) c.next_size-result.ensures.image
 
 pub returns-clause-given : goal.returns-clause-given
 returns-clause-given g c =

@@ -3,7 +3,7 @@ use Rattle.layout_outside.specs.Views.{SourceView}
 use Rattle.layout_outside.specs.Taken.{Took}
 use Rattle.pbm_reader.specs.Spelling.{magic}
 use Rattle.pbm_reader.proofs.HeaderLoop.{IsNamedReading}
-use Rattle.pbm_reader.proofs.header.read_told.Given as goal
+use Rattle.pbm_reader.proofs.header.read_sizes.Given as goal
 
 abbrev pub invariant-loop-at : goal.invariant-loop-at
 invariant-loop-at g l = record {
