@@ -130,40 +130,28 @@ fn check(
     Ok(())
 }
 
+/// Shapes, the boxes of their kept components, and the median of their heights.
+const SHAPES: [(Shape, &[[u16; 4]], u16); 13] = [
+    (Shape::White, &[], 0),
+    (Shape::Black, &[[0, 0, 16, 16]], 16),
+    (Shape::Speck, &[], 0),
+    (Shape::CornerBlock, &[[0, 0, 3, 3]], 3),
+    (Shape::TouchingCorners, &[[0, 0, 6, 6]], 6),
+    (Shape::RunsAtCorners, &[[0, 0, 5, 2]], 2),
+    (Shape::RingInRing, &[[1, 1, 14, 14], [4, 4, 11, 11]], 7),
+    (Shape::FrameRoundText, &[[0, 0, 16, 16], [6, 4, 9, 8]], 4),
+    (Shape::Comb, &[[0, 0, 16, 16]], 16),
+    (Shape::Diagonal, &[[0, 0, 16, 16]], 16),
+    (Shape::Checkers, &[[0, 0, 16, 16]], 16),
+    (Shape::Spiral, &[[0, 0, 16, 16]], 16),
+    (Shape::HookAndBlock, &[[0, 0, 8, 6], [4, 0, 6, 3]], 3),
+];
+
 #[test]
 fn shapes_have_their_boxes(rt: HostRuntime) -> Result<(), Fail> {
-    let alloc = rt.alloc();
-    check(&rt, alloc, Shape::White, &[], 0)?;
-    check(&rt, alloc, Shape::Black, &[[0, 0, 16, 16]], 16)?;
-    check(&rt, alloc, Shape::Speck, &[], 0)?;
-    check(&rt, alloc, Shape::CornerBlock, &[[0, 0, 3, 3]], 3)?;
-    check(&rt, alloc, Shape::TouchingCorners, &[[0, 0, 6, 6]], 6)?;
-    check(&rt, alloc, Shape::RunsAtCorners, &[[0, 0, 5, 2]], 2)?;
-    check(
-        &rt,
-        alloc,
-        Shape::RingInRing,
-        &[[1, 1, 14, 14], [4, 4, 11, 11]],
-        7,
-    )?;
-    check(
-        &rt,
-        alloc,
-        Shape::FrameRoundText,
-        &[[0, 0, 16, 16], [6, 4, 9, 8]],
-        4,
-    )?;
-    check(&rt, alloc, Shape::Comb, &[[0, 0, 16, 16]], 16)?;
-    check(&rt, alloc, Shape::Diagonal, &[[0, 0, 16, 16]], 16)?;
-    check(&rt, alloc, Shape::Checkers, &[[0, 0, 16, 16]], 16)?;
-    check(&rt, alloc, Shape::Spiral, &[[0, 0, 16, 16]], 16)?;
-    check(
-        &rt,
-        alloc,
-        Shape::HookAndBlock,
-        &[[0, 0, 8, 6], [4, 0, 6, 3]],
-        3,
-    )?;
+    for (shape, boxes, median) in SHAPES {
+        check(&rt, rt.alloc(), shape, boxes, median)?;
+    }
     Ok(())
 }
 

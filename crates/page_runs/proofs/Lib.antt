@@ -5,3 +5,4 @@ pub mod Pushing
 pub mod Held
 pub mod RowRuns
 pub mod RowWords
+pub mod Walking

@@ -1,31 +1,14 @@
 -- The runs of a row of packed bytes, from the left.
-use Rattle.std.proofs.Common.{◌≡◌, ◌<◌, ◌≤◌, ℕ, zero, suc, ◌+◌, ◌-◌, ◌*◌, ◌/◌, ◌%◌, List, [], ◌∷◌, ◌++◌, length, get_or, inl, inr, refl, sym, ap, subst, ◌∙◌, arith}
+use Rattle.std.proofs.Common.{◌≡◌, ◌<◌, ◌≤◌, ℕ, zero, suc, ◌+◌, ◌-◌, ◌*◌, List, [], ◌∷◌, ◌++◌, length, get_or, inl, inr, refl, sym, ap, subst, ◌∙◌, arith}
 use Rattle.std.specs.Int.{bit_at}
 use Rattle.std.proofs.lemmas.Bool.{cases_lt}
 use Rattle.std.proofs.lemmas.Nat.Bits.{bit_at-zero}
 use Rattle.std.proofs.lemmas.List.{append-nil, append_assoc, get_or-append_right, get_or_append_left, length-append}
 use Rattle.packed_rows.specs.Page.{pixel}
 use Rattle.page_runs.specs.declared.row_runs.Run.{Run}
-use Rattle.page_runs.specs.Runs.{run_at, no_run, AreApart, AreRunsOfBits, AddsRow}
+use Rattle.page_runs.specs.Runs.{run_at, no_run, AreApart, AreAll, AreRunsOfBits, AddsRow}
 
 -- ---- the pixels of a word
-
--- the columns from one to another have the same pixel
-abbrev pub AreAll : ℕ → List ℕ → ℕ → ℕ → Type 0
-AreAll value bits from to = (k : ℕ) → from ≤ k → k < to → pixel bits k ≡ value
-
--- what a word of the row shows of the columns from x on
-pub word_passed : (value : ℕ) (bits : List ℕ) (word from x place next : ℕ) → AreAll value bits from x
-    → ((k : ℕ) → k < 64 → bit_at word (63 - k) ≡ pixel bits (x / 8 * 8 + k)) → ((k : ℕ) → x % 8 ≤ k → k < place → bit_at word (63 - k) ≡ value)
-    → place ≤ 64 → next ≤ x / 8 * 8 + place → AreAll value bits from next
-word_passed value bits word from x place next all is other within bound k left right = elim (cases_lt k x) [
-  | inl passed ↦ all k left passed
-  | inr here ↦
-      let j = k - x / 8 * 8 in
-      let at : k ≡ x / 8 * 8 + j = omega (arith, here) in
-      let less : j < place = omega (arith, here, right, bound) in
-      ap (pixel bits) at ∙ sym (is j (omega (arith, less, within))) ∙ other j (omega (arith, here)) less
-]
 
 -- a white word leaves the columns before the next one white
 pub white_passed : (bits : List ℕ) (word from byte : ℕ) → AreAll 0 bits from (byte * 8)
@@ -36,19 +19,6 @@ white_passed bits word from byte all is white k left right = elim (cases_lt k (b
       let j = k - byte * 8 in
       let at : k ≡ byte * 8 + j = omega (arith, here) in
       ap (pixel bits) at ∙ sym (is j (omega (arith, here, right))) ∙ ap (λ (w : ℕ). bit_at w (63 - j)) white ∙ bit_at-zero (63 - j)
-]
-
--- the white words from the one of a column on
-pub whites_passed : (bits : List ℕ) (word from x byte next stop : ℕ) → AreAll 0 bits from x → byte ≡ x / 8
-    → ((k : ℕ) → k < 64 → bit_at word (63 - k) ≡ pixel bits (byte * 8 + k)) → word ≡ 0
-    → AreAll 0 bits ((byte + 8) * 8) stop → next ≤ stop → AreAll 0 bits from next
-whites_passed bits word from x byte next stop all place is white behind within k left right = elim (cases_lt k x) [
-  | inl passed ↦ all k left passed
-  | inr here ↦ elim (cases_lt k ((byte + 8) * 8)) [
-    | inl in_word ↦
-        white_passed bits word x byte (λ i after before. absurd (omega (arith, after, before, place))) is white k here in_word
-    | inr after ↦ behind k after (omega (arith, right, within))
-  ]
 ]
 
 -- ---- one run more
@@ -82,6 +52,27 @@ no_runs bits width x white = record {
 
 pub nothing_added : (bits : List ℕ) (width x : ℕ) (runs : List Run) → AreAll 0 bits 0 x → AddsRow bits width x runs runs
 nothing_added bits width x runs white = record { more = []; is = sym (append-nil runs); are = no_runs bits width x white }
+
+-- white columns add none
+pub whites_added : (bits : List ℕ) (width x next : ℕ) (old now : List Run) → AddsRow bits width x old now → x ≤ next → AreAll 0 bits x next → AddsRow bits width next old now
+whites_added bits width x next old now added on whites =
+    let are = added.are in
+    record {
+      more = added.more;
+      is = added.is;
+      are = record {
+        some = are.some;
+        left = λ i below. omega (arith, are.left i below, on);
+        blacks = are.blacks;
+        maximal = are.maximal;
+        order = are.order;
+        every = λ k left black. elim (cases_lt k x) [
+          | inl before ↦ are.every k before black
+          | inr after ↦ absurd (omega (arith, whites k after left, black))
+        ];
+        few = omega (arith, are.few, on);
+      };
+    }
 
 module _ (bits : List ℕ) (width x end next : ℕ) (runs : List Run) (are : AreRunsOfBits bits width x runs)
     (some : x < end) (on : end ≤ next) (blacks : AreAll 1 bits x end) (ended : end < width → pixel bits end ≡ 0) (whites : AreAll 0 bits end next) where
@@ -152,13 +143,14 @@ runs_apart bits width runs are = record {
   ];
 }
 
--- a row has at most as many runs as columns
-pub few_runs : (width : ℕ) (runs : List Run) → AreApart width runs → length runs ≤ width
-few_runs width runs are = elim (cases_lt 0 (length runs)) [
-  | inl some ↦
+-- runs within some columns, none of which is empty or lies before the end of the one before, are at most as many as the columns
+few_within : (width : ℕ) (runs : List Run) → ((i : ℕ) → i < length runs → (run_at runs i).x0 < (run_at runs i).x1) → ((i : ℕ) → i < length runs → (run_at runs i).x1 ≤ width)
+    → ((i j : ℕ) → i < j → j < length runs → (run_at runs i).x1 ≤ (run_at runs j).x0) → length runs ≤ width
+few_within width runs some within order = elim (cases_lt 0 (length runs)) [
+  | inl one ↦
       let last = length runs - 1 in
-      let below : last < length runs = omega (arith, some) in
-      omega (arith, right last below, are.some last below, are.within last below)
+      let below : last < length runs = omega (arith, one) in
+      omega (arith, right last below, some last below, within last below)
   | inr none ↦ omega (arith, none)
 ]
   where
@@ -166,4 +158,33 @@ few_runs width runs are = elim (cases_lt 0 (length runs)) [
     right zero below = omega arith
     right (suc i) below =
         let before : i < length runs = omega (arith, below) in
-        omega (arith, right i before, are.some i before, are.apart i (suc i) (omega arith) below)
+        omega (arith, right i before, some i before, order i (suc i) (omega arith) below)
+
+-- a row has at most as many runs as columns
+pub few_runs : (width : ℕ) (runs : List Run) → AreApart width runs → length runs ≤ width
+few_runs width runs are = few_within width runs are.some are.within (λ i j less below. omega (arith, are.apart i j less below))
+
+-- what was walked over behind the width is padding
+pub row_ended : (bits : List ℕ) (width x : ℕ) (old now : List Run) → AddsRow bits width x old now → width ≤ x → ((k : ℕ) → width ≤ k → pixel bits k ≡ 0) → AddsRow bits width width old now
+row_ended bits width x old now added past padding =
+    let are = added.are in
+    let left : (i : ℕ) → i < length added.more → (run_at added.more i).x1 ≤ width = λ i below. elim (cases_lt width (run_at added.more i).x1) [
+      | inl outside ↦
+          let last = (run_at added.more i).x1 - 1 in
+          let black = are.blacks i last below (omega (arith, are.some i below)) (omega (arith, outside)) in
+          absurd (omega (arith, black, padding last (omega (arith, outside))))
+      | inr inside ↦ inside
+    ] in
+    record {
+      more = added.more;
+      is = added.is;
+      are = record {
+        some = are.some;
+        left = left;
+        blacks = are.blacks;
+        maximal = are.maximal;
+        order = are.order;
+        every = λ k before black. are.every k (omega (arith, before, past)) black;
+        few = few_within width added.more are.some left are.order;
+      };
+    }

@@ -2,6 +2,7 @@
 pub mod Runs
 pub mod Packed
 pub mod Black
+pub mod Walk
 pub mod Rows
 pub use Rattle.packed_rows.specs.Page
 pub use Rattle.pbm_reader.specs.Given

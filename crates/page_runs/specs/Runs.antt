@@ -36,6 +36,10 @@ pub record AreRunsOfBits (bits : List ℕ) (width x : ℕ) (runs : List Run) : T
   pub every : (k : ℕ) → k < x → pixel bits k ≡ 1 → (i : ℕ) × (i < length runs) × ((run_at runs i).x0 ≤ k) × (k < (run_at runs i).x1)
   pub few : length runs ≤ x
 
+-- the columns from one to another have this pixel
+abbrev pub AreAll : ℕ → List ℕ → ℕ → ℕ → Type 0
+AreAll value bits from to = (k : ℕ) → from ≤ k → k < to → pixel bits k ≡ value
+
 -- a list that got some runs more
 abbrev pub Extends : List Run → List Run → Type 0
 Extends old new = (more : List Run) × (new ≡ old ++ more)

@@ -1,10 +1,14 @@
 //! The maximal runs of black pixels of one row of packed bytes.
-ghost use Rattle.std.specs.Prelude.{◌≡◌, ◌<◌, ◌≤◌, ◌-◌, ◌/◌, ℕ, OnOk, OnErr, IfOk, length};
-ghost use Rattle.packed_rows.specs.Page.{row_len, pixel};
+ghost use Rattle.std.specs.Prelude.{◌≡◌, ◌<◌, ◌≤◌, ◌+◌, ◌*◌, ℕ, List, Some, OnOk, OnErr, IfOk, length};
+ghost use Rattle.packed_rows.specs.Page.{IsPackedRow};
+ghost use Rattle.page_runs.specs.declared.row_runs.Run.{Run};
 ghost use Rattle.page_runs.specs.Black.{black_in};
-ghost use Rattle.page_runs.specs.Runs.{AddsRow, Extends};
+ghost use Rattle.page_runs.specs.Runs.{AddsRow, AreAll, Extends};
+ghost use Rattle.page_runs.specs.Walk.{HasWalked, IsUpTo};
 
-use crate::row_words::{BLACK, WHITE, WORD_PIXELS, behind_white, first_in_word, word_at};
+use crate::row_words::{
+    BLACK, WHITE, WORD_BYTES, WORD_PIXELS, behind_white, first_in_word, word_at,
+};
 use layout_limits::{MAX_SIDE, OutOfMemory};
 
 /// Black pixels of a row, from `x0` up to but not including `x1`, as many as follow one another. The row is the one whose
@@ -17,52 +21,95 @@ pub struct Run {
     pub x1: u16,
 }
 
-/// The first column from `from` on whose pixel has this colour, 1 for black and 0 for white, or the
-/// width where there is none. A word of eight bytes that has no such pixel is skipped whole, and white words, of
-/// which a page has most, are passed over in a loop of their own.
-fn next_pixel(bits: &[u8], from: u16, width: u16, colour: u8) -> u16
-    requires colour { colour ≤ 1 }
-    requires within { from ≤ width }
-    requires width { width ≤ MAX_SIDE }
-    requires len { length bits.now ≡ row_len width }
-    ensures not_before { from ≤ result }
-    ensures within { result ≤ width }
-    ensures other { (k : ℕ) → from ≤ k → k < result → pixel bits.now k ≡ 1 - colour }
-    ensures found { result < width → pixel bits.now result ≡ colour }
+/// What is known of a row up to a column.
+#[derive(Drop)]
+struct Walk {
+    /// The first column of the run that has not ended.
+    begun: Option<u16>,
+    /// How many pixels of the runs that ended are black.
+    black: u64,
+}
+
+/// Walks over the word of a row from this byte on, from edge to edge, and adds the runs that end in it.
+fn add_word(
+    runs: &mut Vec<Run>,
+    walk: &mut Walk,
+    bits: &[u8],
+    byte: usize,
+) -> Result<(), OutOfMemory>
+    requires byte { byte < length bits.now }
+    requires small { length bits.now * 8 ≤ MAX_SIDE + 7 }
+    requires up_to { IsUpTo walk.old.begun walk.old.black (byte * 8) }
+    ensures up_to { OnOk result (IsUpTo walk.new.begun walk.new.black (byte * 8 + 64)) }
+    ensures walked { (old : List Run) (width : ℕ) → HasWalked bits.now width (byte * 8) old runs.old.items walk.old.begun walk.old.black
+        → OnOk result (HasWalked bits.now width (byte * 8 + 64) old runs.new.items walk.new.begun walk.new.black) }
+    ensures err { OnErr result (Extends runs.old.items runs.new.items) }
 {
-    let mut x = from;
-    while x < width {
-        let byte = usize::from(x / 8);
-        let word = word_at(bits, byte);
-        if colour == BLACK && word == 0 {
-            x = width.min(8 * behind_white(bits, byte + 8) as u16);
-        } else {
-            let place = first_in_word(word, x % 8, colour);
-            x = width.min(x / 8 * 8 + place);
-            if place < WORD_PIXELS {
-                return x;
+    let word = word_at(bits, byte);
+    let x = byte as u16 * 8;
+    let mut place = 0;
+    while place < WORD_PIXELS {
+        match walk.begun {
+            None => {
+                place = first_in_word(word, place, BLACK);
+                if place < WORD_PIXELS {
+                    walk.begun = Some(x + place);
+                }
+            }
+            Some(start) => {
+                place = first_in_word(word, place, WHITE);
+                if place < WORD_PIXELS {
+                    runs.push(Run {
+                        x0: start,
+                        x1: x + place,
+                    })?;
+                    walk.black += u64::from(x + place - start);
+                    walk.begun = None;
+                }
             }
         }
     }
-    width
+    Ok(())
+}
+
+/// The byte of the next word that is walked over: where no run has begun, white words are passed over.
+fn next_word(bits: &[u8], begun: Option<u16>, byte: usize) -> usize
+    requires byte { byte < length bits.now }
+    ensures not_before { byte + 8 ≤ result }
+    ensures bound { result < length bits.now + 8 }
+    ensures white { AreAll 0 bits.now (byte * 8 + 64) (result * 8) }
+    ensures begun { (start : ℕ) → begun ≡ Some start → result ≡ byte + 8 }
+{
+    match begun {
+        None => behind_white(bits, byte + WORD_BYTES),
+        Some(_) => byte + WORD_BYTES,
+    }
 }
 
 /// Adds the runs of a row, from the left, and answers how many of its pixels are black. Where memory is refused some of
 /// the runs were added.
 pub(crate) fn add_row(runs: &mut Vec<Run>, bits: &[u8], width: u16) -> Result<u64, OutOfMemory>
     requires width { width ≤ MAX_SIDE }
-    requires len { length bits.now ≡ row_len width }
+    requires packed { IsPackedRow width bits.now }
     ensures ok { OnOk result (AddsRow bits.now width width runs.old.items runs.new.items) }
     ensures err { OnErr result (Extends runs.old.items runs.new.items) }
     ensures black { IfOk result (λ black. (black ≡ black_in width bits.now) × (black ≤ width)) }
 {
-    let mut black = 0u64;
-    let mut x = next_pixel(bits, 0, width, BLACK);
-    while x < width {
-        let end = next_pixel(bits, x, width, WHITE);
-        runs.push(Run { x0: x, x1: end })?;
-        black += u64::from(end - x);
-        x = next_pixel(bits, end, width, BLACK);
+    let mut walk = Walk {
+        begun: None,
+        black: 0,
+    };
+    let mut byte = behind_white(bits, 0);
+    while byte < bits.len() {
+        add_word(runs, &mut walk, bits, byte)?;
+        byte = next_word(bits, walk.begun, byte);
     }
-    Ok(black)
+    if let Some(start) = walk.begun {
+        runs.push(Run {
+            x0: start,
+            x1: width,
+        })?;
+        walk.black += u64::from(width - start);
+    }
+    Ok(walk.black)
 }

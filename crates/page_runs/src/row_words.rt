@@ -4,7 +4,7 @@ ghost use Rattle.std.specs.Int.{bit_at};
 ghost use Rattle.packed_rows.specs.Page.{pixel};
 
 /// The bytes of a word.
-const WORD_BYTES: usize = 8;
+pub(crate) const WORD_BYTES: usize = 8;
 
 /// The pixels of a word.
 pub(crate) const WORD_PIXELS: u16 = 64;

@@ -1,6 +1,6 @@
 //! A page whose rows come one by one from the top.
 ghost use Rattle.std.specs.Prelude.{◌≡◌, ◌<◌, ◌≤◌, ◌+◌, ◌^◌, ℕ, [], ◌∷◌, ◌++◌, OnOk, OnErr, IfOk, IsTrue, ◌↔◌, length, slice_index};
-ghost use Rattle.packed_rows.specs.Page.{Page, IsPackedRow, IsPageSize, row_len};
+ghost use Rattle.packed_rows.specs.Page.{Page, IsPackedRow, IsPageSize};
 ghost use Rattle.page_runs.specs.Packed.{Holds, IsWhole, page_of, row_of, rows_of};
 ghost use Rattle.page_runs.specs.Runs.{AddsRow, AreRunsOf, Extends};
 ghost use Rattle.page_runs.specs.Black.{black_in, black_of};
@@ -46,7 +46,7 @@ fn add_ended_row(
     width: u16,
 ) -> Result<u64, OutOfMemory>
     requires width { width ≤ MAX_SIDE }
-    requires len { length bits.now ≡ row_len width }
+    requires packed { IsPackedRow width bits.now }
     requires room { length runs.old.items + MAX_SIDE < 2 ^ 32 }
     ensures black { IfOk result (λ black. (black ≡ black_in width bits.now) × (black ≤ width)) }
     ensures added { OnOk result (AddsRow bits.now width width runs.old.items runs.new.items) }
