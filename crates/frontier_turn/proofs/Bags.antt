@@ -24,6 +24,10 @@ module _ {A : Type 0} where
   pub total_same : (f : A → ℕ) (xs : List A) (i : ℕ) (v w : A) → get_elem? xs i ≡ some v → f w ≡ f v → total f (set xs i w) ≡ total f xs
   total_same f xs i v w e s = omega (arith, total_set f xs i v w e)
 
+  -- two items are replaced, one after the other
+  pub total_joined : (f : A → ℕ) (xs : List A) (i : ℕ) (v v' : A) (j : ℕ) (w w' : A) → get_elem? xs i ≡ some v → get_elem? (set xs i v') j ≡ some w → total f (set (set xs i v') j w') + f v + f w ≡ total f xs + f v' + f w'
+  total_joined f xs i v v' j w w' e e' = omega (arith, total_set f xs i v v' e, total_set f (set xs i v') j w w' e')
+
   pub total_snoc : (f : A → ℕ) (xs : List A) (x : A) → total f (xs ++ x ∷ []) ≡ total f xs + f x
   total_snoc f [] x = omega arith
   total_snoc f (y ∷ xs) x = omega (arith, total_snoc f xs x)

@@ -7,7 +7,7 @@ use Rattle.box_search.specs.declared.space.Node.{Node}
 use Rattle.box_search.specs.declared.space.Shape.{Shape}
 use Rattle.box_search.specs.Contents.{Contents}
 use Rattle.frontier_turn.specs.declared.shared.Closed.{Closed}
-use Rattle.frontier_turn.specs.declared.view.View.{View}
+use Rattle.frontier_turn.specs.Views.{View}
 use Rattle.frontier_turn.specs.Rule.{SharedRule}
 
 module _ {W : Type 0} (problem : List ℤ) (admits : ℕ → Type 0) (lies_in : ℕ → Shape → Type 0) (fits : Node W → Type 0) where

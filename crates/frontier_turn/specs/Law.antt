@@ -1,20 +1,15 @@
 -- The law of the shared search: its rule holds as a search begins, and each step of each pass keeps it.
-use Rattle.std.specs.Prelude.{◌≡◌, ℕ, ◌<◌, ◌≤◌, List, [], ◌∷◌, ℤ, true, false, max, Option, Some, option_to_list}
+use Rattle.std.specs.Prelude.{◌≡◌, ℕ, List, [], ◌∷◌, ℤ, true, false, Option, Some, option_to_list}
 use mathlib.Core.Option.{none}
-use Rattle.atomic_table.specs.Table.{State, step, Allows, Splits, Joins, opening}
+use Rattle.atomic_table.specs.Table.{State, step, Allows, opening}
 use Rattle.box_search.specs.declared.space.Node.{Node}
 use Rattle.box_search.specs.declared.space.Shape.{Shape}
 use Rattle.box_search.specs.Contents.{Contents}
 use Rattle.box_search.specs.Search.{IsRootOf}
-use Rattle.frontier_turn.specs.declared.view.View.{View}
 use Rattle.frontier_turn.specs.Rule.{SharedRule}
-use Rattle.frontier_turn.specs.Steps.{Seated, Reads, Raises, TakesTurn, GivesTurn, MayReturn}
-use Rattle.frontier_turn.specs.Views.{blank, newcomer, split_left, split_right, joined}
-
--- the pass has parts, and searches this problem
-pub record IsLive (problem : List ℤ) (view : View) : Type 0 where
-  pub problem_is : view.rest.problem ≡ problem
-  pub parts : 0 < view.rest.parts
+use Rattle.frontier_turn.specs.Sharing.{IsLiveIn, KeepTheRule}
+use Rattle.frontier_turn.specs.Steps.{Seated, TakesTurn, GivesTurn, MayReturn}
+use Rattle.frontier_turn.specs.Views.{View, standing, parting, newcomer}
 
 -- `Allows Rule ..` says: whatever the words, the slot and the views are that meet the rule, they meet it after the step too
 module _ {W : Type 0} (admits : List ℤ → ℕ → Type 0) (lies_in : List ℤ → ℕ → Shape → Type 0) (fits : List ℤ → Node W → Type 0) where
@@ -27,35 +22,19 @@ module _ {W : Type 0} (admits : List ℤ → ℕ → Type 0) (lies_in : List ℤ
       → IsRootOf (admits problem) (lies_in problem) (fits problem) root → frontier.open_nodes ≡ option_to_list root → frontier.leased ≡ []
       → RuleOf problem (opening (0 ∷ 0 ∷ []) (Some frontier ∷ []) (newcomer problem))
 
-  -- a pass reads the bound word
-  abbrev pub ReadKeepsRule : Type 0
-  ReadKeepsRule = (problem : List ℤ) (id : ℕ) (pass : Seated W) → IsLive problem pass.0
-      → Allows (RuleOf problem) 1 id pass 0 (λ word. word) (Reads admits (step 1 0 0 0 none) pass)
-
-  -- a pass raises the bound word to an admitted key
-  abbrev pub RaiseKeepsRule : Type 0
-  RaiseKeepsRule = (problem : List ℤ) (id key : ℕ) (pass : Seated W) → IsLive problem pass.0 → admits problem key
-      → Allows (RuleOf problem) 1 id pass 0 (λ word. max word key) (Raises admits (step 1 0 key 0 none) pass)
-
   -- a pass that does not hold the turn asks for it, and gets it or is refused
   abbrev pub TakeKeepsRule : Type 0
-  TakeKeepsRule = (problem : List ℤ) (id : ℕ) (pass : Seated W) → IsLive problem pass.0 → pass.0.rest.holds ≡ false
+  TakeKeepsRule = (problem : List ℤ) (id : ℕ) (pass : Seated W) → IsLiveIn standing problem pass.0 → pass.0.rest.holds ≡ false
       → Allows (RuleOf problem) 1 id pass 1 (λ _. 1) (TakesTurn fits (step 1 1 1 0 none) pass)
 
   -- the holder of the turn gives it back with a frontier that may go home
   abbrev pub GiveKeepsRule : Type 0
-  GiveKeepsRule = (problem : List ℤ) (id : ℕ) (view : View) (frontier : Contents W) → IsLive problem view → view.rest.holds ≡ true
+  GiveKeepsRule = (problem : List ℤ) (id : ℕ) (view : View) (frontier : Contents W) → IsLiveIn standing problem view
+      → view.rest.holds ≡ true
       → MayReturn (admits problem) (lies_in problem) (fits problem) view frontier
       → let pass : Seated W = (view, (0, Some frontier) ∷ []) in
       Allows (RuleOf problem) 1 id pass 1 (λ _. 0) (GivesTurn (step 1 1 0 0 none) pass)
 
-  -- a pass of at least two parts that does not hold the turn is cut in two
-  abbrev pub SplitKeepsRule : Type 0
-  SplitKeepsRule = (problem : List ℤ) (id : ℕ) (view : View) → 2 ≤ view.rest.parts → view.rest.holds ≡ false
-      → Splits (RuleOf problem) id view (split_left view) (split_right view)
-
-  -- a pass takes in another that names no lease, and neither holds the turn
-  abbrev pub JoinKeepsRule : Type 0
-  JoinKeepsRule = (problem : List ℤ) (id other : ℕ) (view spent : View) → IsLive problem view → IsLive problem spent
-      → view.rest.holds ≡ false → spent.rest.holds ≡ false → spent.rest.leases ≡ []
-      → Joins (RuleOf problem) id view other spent (joined view spent) blank
+  -- reading, raising, splitting and joining, which are alike in each search by many passes
+  abbrev pub OthersKeepRule : Type 0
+  OthersKeepRule = KeepTheRule admits RuleOf standing parting 1

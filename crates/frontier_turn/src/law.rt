@@ -1,6 +1,5 @@
 //! The law of the shared search: what holds between any two of its steps.
-ghost use Rattle.frontier_turn.specs.Law.{BeginsByRule, ReadKeepsRule, RaiseKeepsRule, TakeKeepsRule};
-ghost use Rattle.frontier_turn.specs.Law.{GiveKeepsRule, SplitKeepsRule, JoinKeepsRule};
+ghost use Rattle.frontier_turn.specs.Law.{BeginsByRule, TakeKeepsRule, GiveKeepsRule, OthersKeepRule};
 
 use box_search::Space;
 
@@ -9,10 +8,7 @@ use box_search::Space;
 /// in every order. It states this, and does nothing.
 pub fn each_step_keeps_the_rule<S: Space>()
     ensures begins { BeginsByRule S.admits S.lies_in S.fits }
-    ensures read { ReadKeepsRule S.admits S.lies_in S.fits }
-    ensures raise { RaiseKeepsRule S.admits S.lies_in S.fits }
     ensures take { TakeKeepsRule S.admits S.lies_in S.fits }
     ensures give { GiveKeepsRule S.admits S.lies_in S.fits }
-    ensures split { SplitKeepsRule S.admits S.lies_in S.fits }
-    ensures join { JoinKeepsRule S.admits S.lies_in S.fits }
+    ensures others { OthersKeepRule S.admits S.lies_in S.fits }
 {}

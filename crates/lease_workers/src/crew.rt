@@ -2,7 +2,7 @@
 ghost use Rattle.std.specs.Prelude.{◌≡◌, ◌<◌, ◌≤◌, [], IfSome, IfNone};
 ghost use Rattle.split_frontier.specs.Callers.{IsOwn};
 ghost use Rattle.split_frontier.specs.Holding.{NamesOnly};
-ghost use Rattle.lease_workers.specs.Finding.{NamesFound};
+ghost use Rattle.lease_workers.specs.Finding.{MayLook, ComesBack, NamesFound};
 
 use crate::gate::Gate;
 use crate::worker::Worker;
@@ -75,8 +75,7 @@ impl<'a, 's, S: Space, R: Wait, G: Gate> Crew<'a, 's, S, R, G> {
         requires unnamed { pass.view.rest.leases ≡ [] }
         requires there { shard < self.now.shards.now.shards }
         ensures worker { worker.new.own ≡ worker.old.own }
-        ensures own { IsOwn self.now.shards.now result.1 }
-        ensures parts { result.1.view.rest.parts ≡ pass.view.rest.parts }
+        ensures back { ComesBack self.now.shards.now pass result.1 }
         ensures named { IfSome result.0 (λ take. NamesOnly shard (S.fits self.now.shards.now.problem) take result.1.view.rest.leases) }
         ensures unnamed { IfNone result.0 (result.1.view.rest.leases ≡ []) }
     {
@@ -116,13 +115,9 @@ impl<'a, 's, S: Space, R: Wait, G: Gate> Crew<'a, 's, S, R, G> {
         pass: SplitPass<S>,
         manner: Manner,
     ) -> (Found<S::Work>, SplitPass<S>)
-        requires shards { self.now.count ≡ self.now.shards.now.shards }
-        requires worker { worker.old.own < self.now.count }
-        requires own { IsOwn self.now.shards.now pass }
-        requires unnamed { pass.view.rest.leases ≡ [] }
+        requires ready { MayLook self.now.count worker.old.own self.now.shards.now pass }
         ensures worker { worker.new.own ≡ worker.old.own }
-        ensures own { IsOwn self.now.shards.now result.1 }
-        ensures parts { result.1.view.rest.parts ≡ pass.view.rest.parts }
+        ensures back { ComesBack self.now.shards.now pass result.1 }
         ensures named { NamesFound (S.fits self.now.shards.now.problem) self.now.count result.0 result.1.view.rest.leases }
     {
         let own = worker.own;
@@ -144,21 +139,17 @@ impl<'a, 's, S: Space, R: Wait, G: Gate> Crew<'a, 's, S, R, G> {
     /// Goes round the shards again, some times at once, and then so that it waits for each turn, and for news where it
     /// found no lease and others have some.
     ///
-    /// Before it waits for news it looks once it has announced that it will wait, since whoever opens nodes, or ends, tells it afterwards: either
-    /// this look sees what came of it, or the wait ends. It waits for each turn, since two that only tried could each
-    /// find the other's turn held, and both sleep.
+    /// Before it waits for news it looks once it has announced that it will wait, since whoever opens nodes, or ends,
+    /// tells it afterwards: either this look sees what came of it, or the wait ends. It waits for each turn, since two that
+    /// only tried could each find the other's turn held, and both sleep.
     pub(crate) fn look_or_wait(
         &self,
         worker: &mut Worker,
         pass: SplitPass<S>,
     ) -> (Found<S::Work>, SplitPass<S>)
-        requires shards { self.now.count ≡ self.now.shards.now.shards }
-        requires worker { worker.old.own < self.now.count }
-        requires own { IsOwn self.now.shards.now pass }
-        requires unnamed { pass.view.rest.leases ≡ [] }
+        requires ready { MayLook self.now.count worker.old.own self.now.shards.now pass }
         ensures worker { worker.new.own ≡ worker.old.own }
-        ensures own { IsOwn self.now.shards.now result.1 }
-        ensures parts { result.1.view.rest.parts ≡ pass.view.rest.parts }
+        ensures back { ComesBack self.now.shards.now pass result.1 }
         ensures named { NamesFound (S.fits self.now.shards.now.problem) self.now.count result.0 result.1.view.rest.leases }
     {
         if worker.may_look() {

@@ -5,8 +5,9 @@ ghost use Rattle.box_search.specs.Leasing.{above};
 ghost use Rattle.box_search.specs.Shapes.{size};
 ghost use Rattle.frontier_turn.specs.Holding.{Replaces};
 ghost use Rattle.split_frontier.specs.Callers.{IsOwn};
-ghost use Rattle.split_frontier.specs.Claims.{unspent, spent};
+ghost use Rattle.split_frontier.specs.Claims.{unspent};
 ghost use Rattle.split_frontier.specs.Holding.{NamesOnly};
+ghost use Rattle.lease_workers.specs.Finding.{ComesBack};
 
 use crate::crew::Crew;
 use crate::gate::Gate;
@@ -95,8 +96,7 @@ impl<'a, 's, S: Space, R: Wait, G: Gate> Crew<'a, 's, S, R, G> {
         requires replaces { let p = self.now.shards.now.problem in
             Replaces (S.admits p) (S.lies_in p) lease.node.shape parts.seen parts.nodes.items }
         ensures worker { worker.new.own ≡ worker.old.own }
-        ensures own { IsOwn self.now.shards.now result.1 }
-        ensures parts { result.1.view.rest.parts ≡ pass.view.rest.parts }
+        ensures back { ComesBack self.now.shards.now pass result.1 }
         ensures named { IfSome result.0 (λ take.
             NamesOnly worker.old.own (S.fits self.now.shards.now.problem) take result.1.view.rest.leases) }
         ensures unnamed { IfNone result.0 (result.1.view.rest.leases ≡ []) }
@@ -122,51 +122,6 @@ impl<'a, 's, S: Space, R: Wait, G: Gate> Crew<'a, 's, S, R, G> {
         }
     }
 
-    /// Gives a lease back in a turn of its home.
-    pub(crate) fn give_up(
-        &self,
-        worker: &mut Worker,
-        pass: SplitPass<S>,
-        home: u32,
-        lease: Lease<S::Work>,
-    ) -> SplitPass<S>
-        requires there { home < self.now.shards.now.shards }
-        requires own { IsOwn self.now.shards.now pass }
-        requires named { pass.view.rest.leases ≡ unspent home lease ∷ [] }
-        requires fit { S.fits self.now.shards.now.problem lease.node }
-        ensures worker { worker.new.own ≡ worker.old.own }
-        ensures own { IsOwn self.now.shards.now result }
-        ensures parts { result.view.rest.parts ≡ pass.view.rest.parts }
-        ensures unnamed { result.view.rest.leases ≡ [] }
-    {
-        worker.pass_gate(self.gate);
-        let mut turn = self.shards.enter(self.rt, pass, home);
-        turn.reopen(lease);
-        turn.leave()
-    }
-
-    /// Ends a lease, whose nodes were adopted, in a turn of its home.
-    fn end_at_home(
-        &self,
-        worker: &mut Worker,
-        pass: SplitPass<S>,
-        home: u32,
-        lease: Lease<S::Work>,
-    ) -> SplitPass<S>
-        requires there { home < self.now.shards.now.shards }
-        requires own { IsOwn self.now.shards.now pass }
-        requires named { pass.view.rest.leases ≡ spent home lease ∷ [] }
-        ensures worker { worker.new.own ≡ worker.old.own }
-        ensures own { IsOwn self.now.shards.now result }
-        ensures parts { result.view.rest.parts ≡ pass.view.rest.parts }
-        ensures unnamed { result.view.rest.leases ≡ [] }
-    {
-        worker.pass_gate(self.gate);
-        let mut turn = self.shards.enter(self.rt, pass, home);
-        turn.end(lease);
-        turn.leave()
-    }
-
     /// Opens what takes the place of a lease of another shard in the worker's own one, and then ends the lease at its
     /// home. Where there is no memory the lease goes back, and it answers `false`. It wakes others for the nodes.
     pub(crate) fn adopt(
@@ -188,8 +143,7 @@ impl<'a, 's, S: Space, R: Wait, G: Gate> Crew<'a, 's, S, R, G> {
         requires replaces { let p = self.now.shards.now.problem in
             Replaces (S.admits p) (S.lies_in p) lease.node.shape parts.seen parts.nodes.items }
         ensures worker { worker.new.own ≡ worker.old.own }
-        ensures own { IsOwn self.now.shards.now result.1 }
-        ensures parts { result.1.view.rest.parts ≡ pass.view.rest.parts }
+        ensures back { ComesBack self.now.shards.now pass result.1 }
         ensures unnamed { result.1.view.rest.leases ≡ [] }
     {
         worker.pass_gate(self.gate);
@@ -200,12 +154,16 @@ impl<'a, 's, S: Space, R: Wait, G: Gate> Crew<'a, 's, S, R, G> {
             Ok(()) => {
                 let after = turn.leave();
                 self.wake(opened);
-                (true, self.end_at_home(worker, after, home, lease))
+                worker.pass_gate(self.gate);
+                let back = self.shards.bring_home(self.rt, after, home, lease, true);
+                (true, back)
             }
             Err(back) => {
                 let after = turn.leave();
                 drop(back);
-                (false, self.give_up(worker, after, home, lease))
+                worker.pass_gate(self.gate);
+                let back = self.shards.bring_home(self.rt, after, home, lease, false);
+                (false, back)
             }
         }
     }

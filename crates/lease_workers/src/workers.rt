@@ -10,7 +10,7 @@ use crate::gate::Gate;
 use crate::working::Ended;
 use box_search::Space;
 use crossbeam_utils::sync::EventCount;
-use frontier_turn::Closed;
+use frontier_turn::{Closed, DividesPasses};
 use layout_limits::{MAX_WORKERS, OutOfMemory};
 use split_frontier::{Shards, SplitPass, each_step_keeps_the_rule};
 use std::alloc::Global;

@@ -1,7 +1,7 @@
 //! What one worker does: it looks for a lease, takes the step at its node, ends the lease, and looks again.
 ghost use Rattle.std.specs.Prelude.{◌≡◌, ◌<◌, ◌≤◌, [], IfSome, IfNone};
 ghost use Rattle.split_frontier.specs.Callers.{IsOwn};
-ghost use Rattle.lease_workers.specs.Finding.{NamesLease, NamesFound};
+ghost use Rattle.lease_workers.specs.Finding.{ComesBack, NamesLease, NamesFound};
 
 use crate::crew::{Crew, Found, Manner};
 use crate::gate::Gate;
@@ -37,8 +37,7 @@ impl<'a, 's, S: Space, R: Wait, G: Gate> Crew<'a, 's, S, R, G> {
         requires own { IsOwn self.now.shards.now pass }
         requires named { NamesLease (S.fits self.now.shards.now.problem) self.now.count home lease pass.view.rest.leases }
         ensures worker { worker.new.own ≡ worker.old.own }
-        ensures own { IsOwn self.now.shards.now result.1 }
-        ensures parts { result.1.view.rest.parts ≡ pass.view.rest.parts }
+        ensures back { ComesBack self.now.shards.now pass result.1 }
         ensures named { IfSome result.0 (λ found.
             NamesFound (S.fits self.now.shards.now.problem) self.now.count found result.1.view.rest.leases) }
         ensures unnamed { IfNone result.0 (result.1.view.rest.leases ≡ []) }
@@ -46,7 +45,11 @@ impl<'a, 's, S: Space, R: Wait, G: Gate> Crew<'a, 's, S, R, G> {
         let mut pass = pass;
         let parts = match self.replace(alloc, &mut pass, &lease.node) {
             Ok(parts) => parts,
-            Err(OutOfMemory) => return (None, self.give_up(worker, pass, home, lease)),
+            Err(OutOfMemory) => {
+                worker.pass_gate(self.gate);
+                let back = self.shards.bring_home(self.rt, pass, home, lease, false);
+                return (None, back);
+            }
         };
         if home != worker.own {
             let (adopted, pass) = self.adopt(worker, pass, home, lease, parts);
@@ -82,8 +85,7 @@ impl<'a, 's, S: Space, R: Wait, G: Gate> Crew<'a, 's, S, R, G> {
         requires own { IsOwn self.now.shards.now pass }
         requires named { NamesFound (S.fits self.now.shards.now.problem) self.now.count found pass.view.rest.leases }
         ensures worker { worker.new.own ≡ worker.old.own }
-        ensures own { IsOwn self.now.shards.now result.1 }
-        ensures parts { result.1.view.rest.parts ≡ pass.view.rest.parts }
+        ensures back { ComesBack self.now.shards.now pass result.1 }
         ensures named { IfSome result.0 (λ next.
             NamesFound (S.fits self.now.shards.now.problem) self.now.count next result.1.view.rest.leases) }
         ensures unnamed { IfNone result.0 (result.1.view.rest.leases ≡ []) }

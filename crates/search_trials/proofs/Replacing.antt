@@ -4,7 +4,7 @@ use Rattle.box_search.specs.Search.{Splits}
 use Rattle.box_search.specs.declared.space.Node.{Node}
 use Rattle.box_search.specs.declared.space.Shape.{Shape}
 use Rattle.frontier_turn.specs.Holding.{Replaces}
-use Rattle.split_frontier.specs.declared.view.View.{View}
+use Rattle.split_frontier.specs.Views.{View}
 use Rattle.split_frontier.specs.declared.view.Rest.{Rest}
 
 -- the parts of a split have every key of its node

@@ -51,31 +51,6 @@ impl<'a, 's, S: Space, R: Wait> ShardHand<'a, 's, S, R> {
         (take, turn.leave())
     }
 
-    /// Ends a lease that is spent in a turn of its home, and gives one back that is not.
-    pub fn bring_home(
-        &self,
-        pass: SplitPass<S>,
-        home: u32,
-        lease: Lease<S::Work>,
-        is_spent: bool,
-    ) -> SplitPass<S>
-        requires own { IsOwn self.now.shards.now pass }
-        requires there { home < self.now.shards.now.shards }
-        requires named { pass.view.rest.leases ≡ claim_of home lease is_spent ∷ [] }
-        requires fit { S.fits self.now.shards.now.problem lease.node }
-        ensures own { IsOwn self.now.shards.now result }
-        ensures parts { result.view.rest.parts ≡ pass.view.rest.parts }
-        ensures unnamed { result.view.rest.leases ≡ [] }
-    {
-        let mut turn = self.shards.enter(self.rt, pass, home);
-        if is_spent {
-            turn.end(lease);
-            return turn.leave();
-        }
-        turn.reopen(lease);
-        turn.leave()
-    }
-
     /// Takes the step at a leased node of its own shard, and ends the lease, which goes back where there is no memory.
     /// Says whether it ended.
     pub fn settle(
@@ -95,17 +70,21 @@ impl<'a, 's, S: Space, R: Wait> ShardHand<'a, 's, S, R> {
     {
         let Ok((seen, nodes)) = replace(alloc, self.space, self.shards, &mut pass, &lease.node)
         else {
-            return (false, self.bring_home(pass, self.own, lease, false));
+            let back = self
+                .shards
+                .bring_home(self.rt, pass, self.own, lease, false);
+            return (false, back);
         };
         let mut turn = self.shards.enter(self.rt, pass, self.own);
         match turn.finish(lease, nodes, seen) {
             Ok(()) => (true, turn.leave()),
             Err(unfinished) => {
                 let pass = turn.leave();
-                (
-                    false,
-                    self.bring_home(pass, self.own, unfinished.lease, false),
-                )
+                let lease = unfinished.lease;
+                let back = self
+                    .shards
+                    .bring_home(self.rt, pass, self.own, lease, false);
+                (false, back)
             }
         }
     }
@@ -162,7 +141,8 @@ impl<'a, 's, S: Space, R: Wait> ShardHand<'a, 's, S, R> {
             return self.settle(alloc, pass, lease);
         }
         let (adopted, pass) = self.hand_over(alloc, pass, home, &lease);
-        (adopted, self.bring_home(pass, home, lease, adopted))
+        let back = self.shards.bring_home(self.rt, pass, home, lease, adopted);
+        (adopted, back)
     }
 
     /// Leases a node of a shard, and works it off.

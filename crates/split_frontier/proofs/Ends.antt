@@ -19,11 +19,10 @@ use Rattle.frontier_turn.proofs.Bags.{total_part, total_none, total_alike, total
 use Rattle.frontier_turn.proofs.Items.{here, within, IsItem, Contains-item}
 use Rattle.frontier_turn.proofs.Parts.{others_blank, alone}
 use Rattle.split_frontier.specs.declared.view.Claim.{Claim}
-use Rattle.split_frontier.specs.declared.view.View.{View}
 use Rattle.split_frontier.specs.declared.parked.Parked.{Parked}
 use Rattle.split_frontier.specs.Claims.{of_home, CoversKey, IsClaimed}
 use Rattle.split_frontier.specs.Closing.{open_in, leased_in, open_at, leased_at, IsAtHome, IsMoment}
-use Rattle.split_frontier.specs.Views.{blank}
+use Rattle.split_frontier.specs.Views.{View, blank}
 use Rattle.split_frontier.specs.Rule.{Slot, parts_of, is_shard, held_by, named_by, is_listed, IsFree, IsHeld, ShardsClauses, ShardsRule}
 use Rattle.split_frontier.specs.Steps.{shown}
 

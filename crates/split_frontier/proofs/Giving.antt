@@ -20,10 +20,9 @@ use Rattle.frontier_turn.proofs.Items.{here, within, each_set}
 use Rattle.frontier_turn.proofs.Parts.{two_parts}
 use Rattle.frontier_turn.proofs.Truths.{empty_true}
 use Rattle.split_frontier.specs.declared.view.Claim.{Claim}
-use Rattle.split_frontier.specs.declared.view.View.{View}
 use Rattle.split_frontier.specs.declared.parked.Parked.{Parked}
 use Rattle.split_frontier.specs.Claims.{claims_after, IsClaimed}
-use Rattle.split_frontier.specs.Views.{blank, leaves_turn}
+use Rattle.split_frontier.specs.Views.{View, blank, leaves_turn}
 use Rattle.split_frontier.specs.Rule.{Slot, parts_of, is_shard, held_by, named_by, IsPass, IsOpen, IsOut, IsFree, IsHeld, IsTurned, ShardsClauses, ShardsRule}
 use Rattle.split_frontier.specs.Steps.{GivesTurn, IsToBeFound, MayReturn}
 use Rattle.split_frontier.proofs.Marks.{marked_listed}

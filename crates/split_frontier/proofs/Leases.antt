@@ -21,7 +21,7 @@ use Rattle.box_search.proofs.Lists.{Any-permutation, Any-head, Any-tail, Any-con
 use Rattle.frontier_turn.proofs.OpenNodes.{AtNode, in_nodes, in_outlines, out_or_open, stays_beside, open_again, stays_open, fitting_again, seen_or_open}
 use Rattle.frontier_turn.proofs.Bags.{numbers_more, numbers_fewer, permuted_total}
 use Rattle.split_frontier.specs.declared.view.Claim.{Claim}
-use Rattle.split_frontier.specs.declared.view.View.{View}
+use Rattle.split_frontier.specs.Views.{View}
 use Rattle.split_frontier.specs.Claims.{unspent, spent, of_home, unspent_of_home, ClaimsDiffer, without, CoversKey}
 use Rattle.split_frontier.specs.Holding.{Spends}
 use Rattle.split_frontier.specs.Steps.{MayReturn}

@@ -9,17 +9,16 @@ use Rattle.atomic_table.proofs.Lists.{set_here, set_else}
 use Rattle.box_search.specs.declared.space.Node.{Node}
 use Rattle.box_search.specs.declared.space.Shape.{Shape}
 use Rattle.box_search.specs.Search.{IsSound}
-use Rattle.bound_word.proofs.Rises.{sound_max}
+use Rattle.bound_word.specs.Asking.{asks, Reads, Raises}
+use Rattle.bound_word.proofs.Rises.{KeepsAsked, reads as word_reads, raises as word_raises}
 use Rattle.frontier_turn.specs.declared.view.Snapshot.{Snapshot}
 use Rattle.frontier_turn.specs.Bags.{total, one_if}
 use Rattle.frontier_turn.proofs.Bags.{total_same}
 use Rattle.frontier_turn.proofs.Items.{within, each_set}
 use Rattle.split_frontier.specs.declared.view.Claim.{Claim}
-use Rattle.split_frontier.specs.declared.view.View.{View}
 use Rattle.split_frontier.specs.Claims.{of_home, IsClaimed}
-use Rattle.split_frontier.specs.Views.{asks}
+use Rattle.split_frontier.specs.Views.{View, standing}
 use Rattle.split_frontier.specs.Rule.{Slot, parts_of, is_shard, held_by, named_by, is_listed, IsPass, IsOut, IsTurned, ShardsClauses, ShardsRule}
-use Rattle.split_frontier.specs.Steps.{IsTold, Reads, Raises}
 
 pub suc_same : (a b : ℕ) → suc a ≡ suc b → a ≡ b
 suc_same a b e = omega arith
@@ -87,9 +86,6 @@ module _ {W : Type 0} (admits_of : List ℤ → ℕ → Type 0) (lies_in_of : Li
   abbrev Of : State (Slot W) View → Type 0
   Of = ShardsRule p (admits_of p) (lies_in_of p) (fits_of p)
 
-  told : (s : State (Slot W) View) (r : Of s) → get_elem? s.views id ≡ some me.0 → IsTold admits_of me (get_or s.words 0 0)
-  told s r at = (rw own r.sound, ((r.each id me.0 at).live live).seen)
-
   asked : (s : State (Slot W) View) (r : Of s) → get_elem? s.views id ≡ some me.0 → (n m word : ℕ) → get_or s.words 0 0 ≤ word → m ≤ word → IsSound (admits_of p) word → Of (stepped s 0 word id me.1 (asks me.0 n m) keeps)
   asked s r at n m word more seen sound =
       let long = r.turn_words in
@@ -97,9 +93,15 @@ module _ {W : Type 0} (admits_of : List ℤ → ℕ → Type 0) (lies_in_of : Li
       quiet p (admits_of p) (lies_in_of p) (fits_of p) s.words (set s.words 0 word) s.homes s.views id me.0 (asks me.0 n m) r at live refl refl refl refl refl refl (length-set s.words 0 word)
       (λ shard. get_or-set_other s.words 0 (suc shard) word 0 (λ e. omega arith)) (omega arith) (omega arith) (rw is sound)
 
-  pub reads : (a b : ℕ) → Allows Of slots id me 0 (λ n. n) (Reads admits_of (step slots 0 a b none) me)
-  reads a b s r _ at _ = let n = get_or s.words 0 0 in (asks me.0 n n, keeps, tt, asked s r at n n n (omega arith) (omega arith) r.sound, (told s r at, refl, refl))
+  kept : KeepsAsked admits_of standing.problem Of id me
+  kept = record {
+    sound = λ s r. rw own r.sound;
+    seen = λ s r at. ((r.each id me.0 at).live live).seen;
+    asked = λ s r at found seen word more less sound. asked s r at found seen word more less (rw own at sound);
+  }
 
-  pub raises : (k b : ℕ) → admits_of p k → Allows Of slots id me 0 (λ n. max n k) (Raises admits_of (step slots 0 k b none) me)
-  raises k b fair s r _ at _ = let n = get_or s.words 0 0 in
-      (asks me.0 n (max k n), keeps, tt, asked s r at n (max k n) (max n k) (omega arith) (omega arith) (sound_max (admits_of p) k n fair r.sound), (told s r at, refl, refl))
+  pub reads : (a b : ℕ) → Allows Of slots id me 0 (λ n. n) (Reads admits_of standing.problem (step slots 0 a b none) me)
+  reads = word_reads admits_of standing.problem Of slots id me kept
+
+  pub raises : (k b : ℕ) → admits_of p k → Allows Of slots id me 0 (λ n. max n k) (Raises admits_of standing.problem (step slots 0 k b none) me)
+  raises k b fair = word_raises admits_of standing.problem Of slots id me kept k b (subst (λ (q : List ℤ). admits_of q k) (sym own) fair)

@@ -16,12 +16,11 @@ use Rattle.frontier_turn.specs.declared.view.Outline.{Outline}
 use Rattle.frontier_turn.specs.declared.view.Snapshot.{Snapshot}
 use Rattle.frontier_turn.specs.Bags.{total, one_if}
 use Rattle.frontier_turn.specs.Snapshots.{nothing_left, numbered}
-use Rattle.frontier_turn.proofs.Bags.{total_set, total_same, total_snoc}
+use Rattle.frontier_turn.proofs.Bags.{total_set, total_same, total_snoc, total_joined}
 use Rattle.frontier_turn.proofs.Items.{within, each_set}
 use Rattle.frontier_turn.proofs.OpenNodes.{root_open, root_fits}
-use Rattle.split_frontier.specs.declared.view.View.{View}
 use Rattle.split_frontier.specs.Claims.{of_home, IsClaimed}
-use Rattle.split_frontier.specs.Views.{blank, newcomer, split_left, split_right, joined}
+use Rattle.split_frontier.specs.Views.{View, blank, newcomer, split_left, split_right, joined}
 use Rattle.split_frontier.specs.Rule.{Slot, parts_of, is_shard, held_by, named_by, IsPass, IsOut, IsFree, IsTurned, ShardsRule}
 use Rattle.split_frontier.specs.Opening.{IsFresh, IsOpening}
 use Rattle.split_frontier.specs.Steps.{shown}
@@ -76,45 +75,34 @@ module _ {W : Type 0} (p : List ℤ) (admits : ℕ → Type 0) (lies_in : ℕ �
       → Joins (ShardsRule p admits lies_in fits) id v other w (joined v w) blank
   joins id v other w live live' idle idle' unnamed s k at apart at' =
       let a = joined v w in
-      let word = get_or s.words 0 0 in
       let one = set s.views id a in
       let two = set one other blank in
       let mine = (k.each id v at).live live in
       let its = (k.each other w (sym (set_else s.views id other a apart) ∙ at')).live live' in
-      let seen = mine.seen in
-      let seen' = its.seen in
-      let all = k.parts in
-      let cut = total_set parts_of s.views id v a at in
-      let cut' = total_set parts_of one other w blank at' in
       record {
         now = k.now;
         beyond = k.beyond;
         turn_words = k.turn_words;
-        parts = omega arith;
-        each = each_set (IsPass p word k.now) one other blank (record { live = λ l. absurd (omega arith); spent = λ _. refl })
-            (λ j u _ u_at. each_set (IsPass p word k.now) s.views id a
+        parts = omega (arith, k.parts, total_joined parts_of s.views id v a other w blank at at');
+        each = each_set (IsPass p (get_or s.words 0 0) k.now) one other blank (record { live = λ l. absurd (omega arith); spent = λ _. refl })
+            (λ j u _ u_at. each_set (IsPass p (get_or s.words 0 0) k.now) s.views id a
             (record {
-              live = λ _. record { problem_is = mine.problem_is; seen = omega arith; taken = mine.taken; empties = λ _ shard l. absurd (search rules) };
+              live = λ _. record { problem_is = mine.problem_is; seen = omega (arith, mine.seen, its.seen); taken = mine.taken; empties = λ _ shard l. absurd (search rules) };
               spent = λ z. absurd (omega arith);
             })
             (λ i u' _. k.each i u') j u u_at);
         sound = k.sound;
         turned = λ shard home home_at. still (get_or s.words (suc shard) 0) home (total (held_by shard) s.views) (total (held_by shard) two) (k.now shard)
-            (let same = total_same (held_by shard) s.views id v a at refl in
-            let same' = total_set (held_by shard) one other w blank at' in
-            let none' : held_by shard w ≡ 0 = ap (λ (h : Option ℕ). one_if (is_shard shard h)) idle' in
-            omega arith) (k.turned shard home home_at);
+            (let none' : held_by shard w ≡ 0 = ap (λ (h : Option ℕ). one_if (is_shard shard h)) idle' in
+            omega (arith, none', total_joined (held_by shard) s.views id v a other w blank at at')) (k.turned shard home home_at);
         covered = λ key fair. elim (k.covered key fair) [
           | inl low ↦ inl low
           | inr (inl opened) ↦ inr (inl opened)
           | inr (inr out) ↦ inr (inr (out_blank one other w key at' unnamed (out_set lies_in s.views id v a key at (λ c. c) out)))
         ];
         leases = λ shard h.
-            let same = total_same (named_by shard h) s.views id v a at refl in
-            let same' = total_set (named_by shard h) one other w blank at' in
             let nothing_named : total (of_home shard h) w.rest.leases ≡ 0 = ap (total (of_home shard h)) unnamed in
-            let before = k.leases shard h in
-            omega arith;
+            omega (arith, k.leases shard h, total_joined (named_by shard h) s.views id v a other w blank at at', nothing_named);
         numbers = k.numbers;
       }
 

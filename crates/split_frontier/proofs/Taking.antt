@@ -16,10 +16,9 @@ use Rattle.frontier_turn.specs.Bags.{total, one_if}
 use Rattle.frontier_turn.specs.Snapshots.{snapshot_of, numbered, NumbersDiffer}
 use Rattle.frontier_turn.proofs.Bags.{total_set, total_same, total_part}
 use Rattle.frontier_turn.proofs.Items.{here, each_set}
-use Rattle.split_frontier.specs.declared.view.View.{View}
 use Rattle.split_frontier.specs.declared.parked.Parked.{Parked}
 use Rattle.split_frontier.specs.Claims.{of_home}
-use Rattle.split_frontier.specs.Views.{meets, takes_turn}
+use Rattle.split_frontier.specs.Views.{View, meets, takes_turn}
 use Rattle.split_frontier.specs.Rule.{Slot, parts_of, is_shard, held_by, named_by, IsPass, IsFree, IsHeld, IsTurned, ShardsClauses, ShardsRule}
 use Rattle.split_frontier.specs.Steps.{Finds, TakesTurn}
 use Rattle.split_frontier.proofs.Moves.{suc_same, out_set, higher, quiet}

@@ -1,7 +1,7 @@
 -- What contracts see of a split search and of its passes.
 use Rattle.std.specs.Prelude.{◌≡◌, ℕ, suc, ◌<◌, List, [], ℤ, None}
 use Rattle.atomic_table.specs.Seated.{TableId}
-use Rattle.split_frontier.specs.declared.view.View.{View}
+use Rattle.split_frontier.specs.Views.{View}
 use Rattle.split_frontier.specs.Steps.{Seated}
 
 -- a split search: its name, how many shards it has, and the problem that is searched

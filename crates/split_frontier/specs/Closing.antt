@@ -8,7 +8,7 @@ use Rattle.box_search.specs.declared.space.Shape.{Shape}
 use Rattle.frontier_turn.specs.declared.shared.Closed.{Closed}
 use Rattle.frontier_turn.specs.Bags.{total}
 use Rattle.split_frontier.specs.declared.parked.Parked.{Parked}
-use Rattle.split_frontier.specs.declared.view.View.{View}
+use Rattle.split_frontier.specs.Views.{View}
 use Rattle.split_frontier.specs.Rule.{Slot, ShardsRule}
 use Rattle.split_frontier.specs.Steps.{shown}
 

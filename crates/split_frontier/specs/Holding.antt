@@ -11,7 +11,7 @@ use Rattle.box_search.specs.declared.lease.Take.TheVariants.{Leased, Idle, Done}
 use Rattle.box_search.specs.Contents.{Contents}
 use Rattle.frontier_turn.specs.Bags.{total}
 use Rattle.split_frontier.specs.declared.view.Claim.{Claim}
-use Rattle.split_frontier.specs.declared.view.View.{View}
+use Rattle.split_frontier.specs.Views.{View}
 use Rattle.split_frontier.specs.declared.parked.Naming.{Naming}
 use Rattle.split_frontier.specs.Claims.{unspent, spent, of_home, ClaimsDiffer, claims_after}
 use Rattle.split_frontier.specs.Steps.{Seated, MayReturn}

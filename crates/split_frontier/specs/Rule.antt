@@ -11,10 +11,9 @@ use Rattle.box_search.specs.Search.{IsSound}
 use Rattle.frontier_turn.specs.declared.view.Snapshot.{Snapshot}
 use Rattle.frontier_turn.specs.Bags.{total, one_if}
 use Rattle.frontier_turn.specs.Snapshots.{snapshot_of, nothing_left, NumbersDiffer}
-use Rattle.split_frontier.specs.declared.view.View.{View}
 use Rattle.split_frontier.specs.declared.parked.Parked.{Parked}
 use Rattle.split_frontier.specs.Claims.{of_home, IsClaimed}
-use Rattle.split_frontier.specs.Views.{blank}
+use Rattle.split_frontier.specs.Views.{View, blank}
 
 -- what a slot has: a frontier, or nothing while a pass has it
 abbrev pub Slot : Type 0 → Type 0

@@ -1,20 +1,18 @@
 -- What each step tells its pass, and when the turn of a shard may be given back.
-use Rattle.std.specs.Prelude.{◌≡◌, ℕ, suc, ◌+◌, ◌≤◌, ◌≢◌, ◌⊎◌, List, [], ◌∷◌, ℤ, max, All, Any, Some, None}
+use Rattle.std.specs.Prelude.{◌≡◌, ℕ, suc, ◌+◌, ◌≤◌, ◌≢◌, ◌⊎◌, List, [], ◌∷◌, ℤ, All, Any, Some, None}
 use Rattle.atomic_table.specs.Table.{Me, Step, rest}
 use Rattle.box_search.specs.declared.space.Node.{Node}
 use Rattle.box_search.specs.declared.space.Shape.{Shape}
 use Rattle.box_search.specs.declared.lease.Entry.{Entry}
 use Rattle.box_search.specs.Contents.{Contents}
-use Rattle.box_search.specs.Search.{IsSound}
 use Rattle.frontier_turn.specs.declared.view.Snapshot.{Snapshot}
 use Rattle.frontier_turn.specs.Bags.{total}
 use Rattle.frontier_turn.specs.Snapshots.{snapshot_of, nothing_left, NumbersDiffer}
 use Rattle.split_frontier.specs.declared.view.Claim.{Claim}
-use Rattle.split_frontier.specs.declared.view.View.{View}
 use Rattle.split_frontier.specs.declared.parked.Parked.{Parked}
 use Rattle.split_frontier.specs.Claims.{of_home, unspent_of_home, ClaimsDiffer, claims_after, IsClaimed}
 use Rattle.split_frontier.specs.Rule.{Slot}
-use Rattle.split_frontier.specs.Views.{asks, meets, takes_turn, leaves_turn}
+use Rattle.split_frontier.specs.Views.{View, meets, takes_turn, leaves_turn}
 
 -- a pass at the table: its view, and the slots that it has
 abbrev pub Seated : Type 0 → Type 0
@@ -26,20 +24,6 @@ IsToBeFound lies_in snapshot claims key =
     Any (λ node. lies_in key node.shape) snapshot.open_nodes ⊎ IsClaimed lies_in claims key
 
 module _ {W : Type 0} where
-  -- the word found is 0 or an admitted key, and at least what the pass had seen
-  abbrev pub IsTold : (List ℤ → ℕ → Type 0) → Seated W → ℕ → Type 0
-  IsTold admits before found = IsSound (admits before.0.rest.problem) found × (before.0.seen ≤ found)
-
-  -- read: the pass has seen the word
-  abbrev pub Reads : (List ℤ → ℕ → Type 0) → Step (Slot W) → Seated W → ℕ → Seated W → Type 0
-  Reads admits step before found after =
-      IsTold admits before found × (after.0 ≡ asks before.0 found found) × (after.1 ≡ before.1)
-
-  -- raise: the pass has seen the greater of the word and the key
-  abbrev pub Raises : (List ℤ → ℕ → Type 0) → Step (Slot W) → Seated W → ℕ → Seated W → Type 0
-  Raises admits step before found after =
-      IsTold admits before found × (after.0 ≡ asks before.0 found (max step.first found)) × (after.1 ≡ before.1)
-
   -- what the holder of a shard's turn finds: nodes that fit, numbers that differ, and each lease of this home that it names
   pub record Finds (fits : Node W → Type 0) (shard : ℕ) (claims : List Claim) (frontier : Contents W) : Type 0 where
     pub fitting : All fits frontier.open_nodes

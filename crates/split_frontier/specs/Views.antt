@@ -1,29 +1,34 @@
 -- What each step makes of the view of its pass.
-use Rattle.std.specs.Prelude.{ℕ, zero, suc, ◌+◌, ◌-◌, ◌/◌, List, [], ◌∷◌, ℤ, Bool, not, cond, eqb, max, filter, Option, Some, None}
+use Rattle.std.specs.Prelude.{◌≡◌, ℕ, zero, suc, ◌+◌, ◌-◌, ◌/◌, List, [], ◌∷◌, ℤ, Bool, not, cond, eqb, max, filter, Option, Some, None}
+use Rattle.bound_word.specs.declared.view.View.{View as ViewOf}
+use Rattle.bound_word.specs.Asking.{has_seen, with_rest}
 use Rattle.frontier_turn.specs.declared.view.Snapshot.{Snapshot}
+use Rattle.frontier_turn.specs.Sharing.{Parting, Standing}
 use Rattle.frontier_turn.specs.Snapshots.{nothing_left, is_empty}
 use Rattle.split_frontier.specs.declared.view.Claim.{Claim}
 use Rattle.split_frontier.specs.declared.view.Rest.{Rest}
-use Rattle.split_frontier.specs.declared.view.View.{View}
+
+-- what a pass knows
+abbrev pub View : Type 0
+View = ViewOf Rest
+
+-- what all steps ask of it
+abbrev pub standing : Standing Rest
+standing = record { problem = λ r. r.problem; parts = λ r. r.parts; is_idle = λ r. r.holds ≡ None; is_free = λ r. r.leases ≡ [] }
 
 -- a pass that has seen a word, and neither holds a turn nor names a lease
 abbrev pub pass_of : List ℤ → ℕ → ℕ → ℕ → View
-pass_of problem seen splits parts = record {
-  seen = seen;
-  asked = 0;
-  last = 0;
-  rest = record {
-    problem = problem;
-    met = 0;
-    found = None;
-    splits = splits;
-    holds = None;
-    taken = nothing_left;
-    leases = [];
-    empties = [];
-    parts = parts;
-  };
-}
+pass_of problem seen splits parts = has_seen seen (record {
+  problem = problem;
+  met = 0;
+  found = None;
+  splits = splits;
+  holds = None;
+  taken = nothing_left;
+  leases = [];
+  empties = [];
+  parts = parts;
+})
 
 -- the view of a pass that was joined away
 abbrev pub blank : View
@@ -32,13 +37,6 @@ blank = pass_of [] 0 0 0
 -- the first pass has all 2 ^ 64 parts
 abbrev pub newcomer : List ℤ → View
 newcomer problem = pass_of problem 0 0 18446744073709551616
-
-abbrev pub with_rest : View → Rest → View
-with_rest view rest = record { seen = view.seen; asked = view.asked; last = view.last; rest = rest }
-
--- read or raise: one more of them, which found a word and has now seen another
-abbrev pub asks : View → ℕ → ℕ → View
-asks view found seen = record { seen = seen; asked = view.asked + 1; last = found; rest = view.rest }
 
 -- the shard that the latest of some more such swaps found held
 abbrev pub found_after : ℕ → ℕ → Option ℕ → Option ℕ
@@ -89,3 +87,7 @@ joined view other = let r = view.rest in record {
   last = view.last;
   rest = record r { splits = r.splits + 1; empties = []; parts = r.parts + other.rest.parts };
 }
+
+-- how views are cut in two and made one
+abbrev pub parting : Parting Rest
+parting = record { left = split_left; right = split_right; both = joined; spent = blank }

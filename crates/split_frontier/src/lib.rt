@@ -2,6 +2,7 @@
 //! callers raise.
 #![tactic(auto)]
 
+mod homing;
 mod law;
 mod parked;
 mod pass;

@@ -8,18 +8,17 @@ ghost use Rattle.split_frontier.specs.Closing.{at_most, ClosesAs};
 ghost use Rattle.split_frontier.specs.Holding.{AreLeased};
 ghost use Rattle.split_frontier.specs.Opening.{IsFresh, IsOpening};
 ghost use Rattle.split_frontier.specs.Rule.{is_listed};
-ghost use Rattle.split_frontier.specs.Views.{newcomer, meets, meets_often, takes_turn, split_left, split_right, joined};
+ghost use Rattle.split_frontier.specs.Views.{newcomer, standing, parting, meets, meets_often, takes_turn};
 
 use crate::parked::{Naming, Parked};
 use crate::pass::SplitPass;
-use crate::rule::{BOUND, Halve, Merge, Raise, Read, SearchRule, TURNS, TakeTurn};
 use crate::turn::SplitTurn;
 use crate::view::{Rest, View};
 use atomic_table::{Refused, Table};
-use bound_word::BoundWord;
+use bound_word::{BoundWord, Raise, Read};
 use box_search::{Frontier, Node, Space};
 use crossbeam_utils::sync::{EventCount, Key};
-use frontier_turn::Closed;
+use frontier_turn::{BOUND, Closed, DividesPasses, Halve, Merge, SearchRule, TURNS, TakeTurn};
 use layout_limits::{MAX_WORKERS, OutOfMemory};
 use std::alloc::Global;
 use std::hint::spin_loop;
@@ -30,7 +29,7 @@ use std::sync::Wait;
 /// A search that many callers share: a bound word, and shards, each with a frontier that one caller has at a time.
 #[derive(Drop)]
 pub struct Shards<'s, S: Space> {
-    table: Table<Option<Parked<S::Work>>, View, S, SearchRule<S>, Global>,
+    table: Table<Option<Parked<S::Work>>, View, S, SearchRule<Rest>, Global>,
     space: PhantomData<&'s S>,
     /// Of each shard, that its turn was given back.
     given: Vec<EventCount>,
@@ -214,33 +213,6 @@ impl<'s, S: Space> Shards<'s, S> {
         unreachable!()
     }
 
-    /// Cuts a pass in two. The second pass has half of the parts, rounded down, has seen what the first has seen, and
-    /// names no lease. Neither holds a turn, and neither has empties. It takes no memory.
-    pub fn split(&self, pass: &mut SplitPass<S>) -> SplitPass<S>
-        requires own { IsOwn self.now pass.old }
-        requires parts { 2 ≤ pass.old.view.rest.parts }
-        ensures first_table { pass.new.table_id ≡ pass.old.table_id }
-        ensures first { pass.new.view ≡ split_left pass.old.view }
-        ensures second_table { result.table_id ≡ pass.old.table_id }
-        ensures second { result.view ≡ split_right pass.old.view }
-    {
-        let seat = self.table.shared.split_seat::<Halve>(&mut pass.seat);
-        SplitPass { seat }
-    }
-
-    /// Takes back a pass that names no lease. The pass that remains has the parts of both, has seen the greater of what
-    /// the two have seen, and has no empties. It takes no memory.
-    pub fn join(&self, pass: &mut SplitPass<S>, other: SplitPass<S>)
-        requires own { IsOwn self.now pass.old }
-        requires other { IsOwn self.now other }
-        requires unnamed { other.view.rest.leases ≡ [] }
-        ensures table { pass.new.table_id ≡ pass.old.table_id }
-        ensures view { pass.new.view ≡ joined pass.old.view other.view }
-    {
-        let SplitPass { seat } = other;
-        self.table.shared.join_seat::<Merge>(&mut pass.seat, seat);
-    }
-
     /// Ends the search. The pass has all parts, so it is the last one. It answers the word, and how many nodes are open
     /// and leased in the frontiers of all shards, as they are at that moment, at which the rule of the search holds. A
     /// sum above the greatest u64 is given as this number. Where nothing is open and nothing is leased, the word is the
@@ -310,5 +282,26 @@ impl<'s, S: Space> BoundWord for Shards<'s, S> {
     fn read(&self, pass: &mut SplitPass<S>) -> u64 {
         let table = &self.table.shared;
         table.load::<Read<S>>(&mut pass.seat, BOUND)
+    }
+}
+
+/// Neither a split nor a join leaves a pass with empties.
+impl<'s, S: Space> DividesPasses for Shards<'s, S> {
+    ghost table_of = { λ pass. pass.table_id };
+
+    ghost view_of = { λ pass. pass.view };
+
+    ghost standing = { standing };
+
+    ghost parting = { parting };
+
+    fn split(&self, pass: &mut SplitPass<S>) -> SplitPass<S> {
+        let seat = self.table.shared.split_seat::<Halve>(&mut pass.seat);
+        SplitPass { seat }
+    }
+
+    fn join(&self, pass: &mut SplitPass<S>, other: SplitPass<S>) {
+        let SplitPass { seat } = other;
+        self.table.shared.join_seat::<Merge>(&mut pass.seat, seat);
     }
 }

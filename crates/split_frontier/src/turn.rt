@@ -9,29 +9,21 @@ ghost use Rattle.split_frontier.specs.Views.{leaves_turn};
 
 use crate::parked::{Naming, Parked};
 use crate::pass::SplitPass;
-use crate::rule::{GiveTurn, SearchRule, TURNS};
-use crate::view::{Claim, View};
+use crate::view::{Claim, Rest, View};
 use atomic_table::Seat;
 use box_search::{Entry, Frontier, Lease, Node, Space, Take, Unfinished};
 use crossbeam_utils::sync::EventCount;
+use frontier_turn::{GiveTurn, Steps, TURNS};
 use layout_limits::OutOfMemory;
 use std::alloc::Global;
 use std::marker::Model;
 use std::snapshot::Snapshot;
 
-/// The part of a table that its passes share.
-pub(crate) type Steps<S> = atomic_table::Shared<
-    Option<Parked<<S as Space>::Work>>,
-    View,
-    S,
-    SearchRule<S>,
->;
-
 /// The turn of one shard: its frontier is with one pass, and no other pass reaches it.
 ///
 /// It holds its pass, so the pass can do nothing else while the turn lives. It cannot be dropped: it ends by `leave`.
 pub struct SplitTurn<'a, S: Space> {
-    pub(crate) table: &'a Steps<S>,
+    pub(crate) table: &'a Steps<S, Option<Parked<S::Work>>, Rest>,
     pub(crate) seat: Seat<Option<Parked<S::Work>>, View>,
     pub(crate) shard: u32,
     pub(crate) frontier: Frontier<S::Work>,

@@ -37,13 +37,4 @@ pub struct Rest {
 }
 
 /// The view of a pass.
-pub struct View {
-    /// The greatest word that the pass has read or raised.
-    pub seen: u64,
-    /// How many loads and raises it made.
-    pub asked: u64,
-    /// The word that the latest of them found.
-    pub last: u64,
-    /// All else.
-    pub rest: Rest,
-}
+pub(crate) type View = bound_word::View<Rest>;

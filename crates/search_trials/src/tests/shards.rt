@@ -7,7 +7,7 @@ ghost use Rattle.split_frontier.specs.Callers.{IsOwn};
 use super::{BELOW, RIGHT};
 use crate::{ShardHand, Table};
 use box_search::{Space, Take};
-use frontier_turn::Closed;
+use frontier_turn::{Closed, DividesPasses};
 use layout_limits::OutOfMemory;
 use split_frontier::{Shards, SplitPass};
 use std::alloc::Global;

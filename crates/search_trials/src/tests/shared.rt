@@ -8,7 +8,7 @@ use super::shards::split_search_by_two;
 use super::{BELOW, RIGHT, chance_numbers};
 use crate::{Table, take_lease, work, work_off};
 use box_search::{Alone, Searcher, Space, Take};
-use frontier_turn::{Closed, Pass, Shared};
+use frontier_turn::{Closed, DividesPasses, Pass, Shared};
 use layout_limits::OutOfMemory;
 use std::alloc::Global;
 use std::sync::Wait;

@@ -1,7 +1,7 @@
 use Rattle.std.proofs.Common.{◌≡◌, ◌∷◌, rules, sym, ap, ◌∙◌, subst, List, ℤ}
 use Rattle.box_search.specs.declared.space.Node.{Node}
 use Rattle.frontier_turn.specs.Holding.{Replaces}
-use Rattle.split_frontier.specs.declared.view.View.{View}
+use Rattle.split_frontier.specs.Views.{View}
 use Rattle.split_frontier.specs.declared.view.Claim.{Claim}
 use Rattle.split_frontier.specs.Claims.{unspent}
 use Rattle.split_frontier.proofs.Working.{only_named_here, none_left}

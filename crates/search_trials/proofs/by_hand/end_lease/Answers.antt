@@ -1,5 +1,5 @@
 use Rattle.std.proofs.Common.{◌≡◌, sym, ap, ◌∙◌, subst, List, ℤ}
-use Rattle.frontier_turn.specs.declared.view.View.{View}
+use Rattle.frontier_turn.specs.Views.{View}
 use Rattle.frontier_turn.specs.Holding.{Replaces}
 use Rattle.frontier_turn.proofs.Working.{is_named, names_no_more, still_named, names_no_more_again}
 use Rattle.search_trials.proofs.by_hand.end_lease.Goals as goal

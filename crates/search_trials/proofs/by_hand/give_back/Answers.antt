@@ -1,5 +1,5 @@
 use Rattle.std.proofs.Common.{ap, ◌∙◌}
-use Rattle.frontier_turn.specs.declared.view.View.{View}
+use Rattle.frontier_turn.specs.Views.{View}
 use Rattle.frontier_turn.proofs.Working.{is_named, names_no_more}
 use Rattle.search_trials.proofs.by_hand.give_back.Goals as goal
 

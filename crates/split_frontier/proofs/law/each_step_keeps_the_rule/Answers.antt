@@ -10,10 +10,12 @@ returns g c =
     let S = g.S.Space in
     record {
       begins = λ p root words slots is_root opening long zeros. opens p (S.admits p) (S.lies_in p) (S.fits p) words slots root is_root opening long zeros;
-      read = λ p shards id pass live. reads S.admits S.lies_in S.fits p shards id pass live.problem_is live.parts 0 0;
-      raise = λ p shards id key pass live admitted. raises S.admits S.lies_in S.fits p shards id pass live.problem_is live.parts key 0 admitted;
       take = λ p shards id shard pass live idle there. takes_the_turn p (S.admits p) (S.lies_in p) S.fits shards id pass live.problem_is live.parts shard idle there _ 1 0 refl;
       give = λ p shards id shard view parked live holds there back. gives_the_turn p (S.admits p) (S.lies_in p) (S.fits p) shards id shard view parked live.problem_is live.parts holds back there _ 0 0 refl;
-      split = λ p id view several idle. splits p (S.admits p) (S.lies_in p) (S.fits p) id view several idle;
-      join = λ p id other view spent live live' idle idle' unnamed. joins p (S.admits p) (S.lies_in p) (S.fits p) id view other spent live.parts live'.parts idle idle' unnamed;
+      others = λ shards. record {
+        read = λ p id pass live. reads S.admits S.lies_in S.fits p shards id pass live.problem_is live.parts 0 0;
+        raise = λ p id key pass live admitted. raises S.admits S.lies_in S.fits p shards id pass live.problem_is live.parts key 0 admitted;
+        split = λ p id view several idle. splits p (S.admits p) (S.lies_in p) (S.fits p) id view several idle;
+        join = λ p id other view spent live live' idle idle' unnamed. joins p (S.admits p) (S.lies_in p) (S.fits p) id view other spent live.parts live'.parts idle idle' unnamed;
+      };
     }

@@ -1,6 +1,6 @@
 use Rattle.std.proofs.Common.{◌≡◌, sym, ap, ◌∙◌, subst, List, ℤ}
 use Rattle.frontier_turn.specs.Holding.{Replaces}
-use Rattle.split_frontier.specs.declared.view.View.{View}
+use Rattle.split_frontier.specs.Views.{View}
 use Rattle.split_frontier.specs.Claims.{unspent}
 use Rattle.split_frontier.proofs.Working.{only_named_here, none_left}
 use Rattle.lease_workers.specs.Cutting.{IsCut}

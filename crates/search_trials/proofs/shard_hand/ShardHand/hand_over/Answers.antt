@@ -1,5 +1,5 @@
 use Rattle.std.proofs.Common.{refl, List, ℤ, sym, ap, ◌∙◌, subst}
-use Rattle.split_frontier.specs.declared.view.View.{View}
+use Rattle.split_frontier.specs.Views.{View}
 use Rattle.split_frontier.specs.declared.view.Rest.{Rest}
 use Rattle.split_frontier.specs.Claims.{unspent}
 use Rattle.split_frontier.proofs.Working.{only_named, spent_left}

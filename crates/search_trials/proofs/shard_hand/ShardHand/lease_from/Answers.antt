@@ -1,6 +1,6 @@
 use Rattle.std.proofs.Common.{◌≡◌, ℕ, sym, ap, ◌∙◌, subst, List, ℤ, []}
 use Rattle.frontier_turn.specs.Holding.{TakesFitting}
-use Rattle.split_frontier.specs.declared.view.View.{View}
+use Rattle.split_frontier.specs.Views.{View}
 use Rattle.split_frontier.specs.Holding.{Names, NamesOnly}
 use Rattle.split_frontier.proofs.Working.{names_only}
 use Rattle.search_trials.proofs.shard_hand.ShardHand.lease_from.Goals as goal

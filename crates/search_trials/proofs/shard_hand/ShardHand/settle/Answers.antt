@@ -1,6 +1,6 @@
 use Rattle.std.proofs.Common.{◌∷◌, [], refl, List, ℤ, sym, ap, ◌∙◌, subst}
 use Rattle.box_search.specs.declared.lease.Lease.{Lease}
-use Rattle.split_frontier.specs.declared.view.View.{View}
+use Rattle.split_frontier.specs.Views.{View}
 use Rattle.split_frontier.specs.declared.view.Rest.{Rest}
 use Rattle.split_frontier.specs.Claims.{unspent}
 use Rattle.split_frontier.proofs.Working.{only_named_here, none_left}
@@ -29,11 +29,11 @@ returns-in-Ok-finish-clause-unnamed g c =
     ap (λ (v : View). v.rest.leases) c.leave.ensures.view
     ∙ none_left c.enter-turn.result.leases c.finish.new.self.leases (unspent c.args.self.now.own c.args.lease) (unspent c.enter-turn.result.shard c.args.lease) named c.in-Ok-finish.ensures.names
 
-pub bring_home-requires-clause-named : goal.bring_home-requires-clause-named
-bring_home-requires-clause-named g c κs within = ap (λ (r : Rest). r.leases) c.replace.ensures.rest ∙ c.requires.named
+pub bring_home-back-requires-clause-named : goal.bring_home-back-requires-clause-named
+bring_home-back-requires-clause-named g c κs within = ap (λ (r : Rest). r.leases) c.replace.ensures.rest ∙ c.requires.named
 
-pub bring_home-requires-in-Err-clause-named : goal.bring_home-requires-in-Err-clause-named
-bring_home-requires-in-Err-clause-named g c κs within =
+pub bring_home-back-requires-in-Err-clause-named : goal.bring_home-back-requires-in-Err-clause-named
+bring_home-back-requires-in-Err-clause-named g c κs within =
     let named = c.enter-turn.ensures.leases ∙ (ap (λ (r : Rest). r.leases) c.replace.ensures.rest ∙ c.requires.named) in
     ap (λ (v : View). v.rest.leases) c.leave-pass.ensures.view
     ∙ (c.in-Err.ensures.err_names ∙ (named ∙ ap (λ (lease : Lease g.row.S-Work.Denot). unspent c.args.self.now.own lease ∷ []) (sym c.in-Err.ensures.lease_returned)))

@@ -3,12 +3,11 @@ use Rattle.std.specs.Prelude.{IsSome}
 use Rattle.atomic_table.specs.Table.{rest}
 use Rattle.frontier_turn.specs.Snapshots.{snapshot_of}
 use Rattle.split_frontier.specs.declared.parked.Parked.{Parked}
-use Rattle.split_frontier.specs.declared.view.View.{View}
 use Rattle.split_frontier.specs.declared.view.Claim.{Claim}
 use Rattle.split_frontier.specs.Callers.{ShardsPass}
 use Rattle.split_frontier.specs.Holding.{AreLeased}
 use Rattle.split_frontier.specs.Steps.{Finds}
-use Rattle.split_frontier.specs.Views.{meets, takes_turn}
+use Rattle.split_frontier.specs.Views.{View, meets, takes_turn}
 use Rattle.split_frontier.proofs.Taking.{takes_the_turn}
 use Rattle.split_frontier.proofs.Turns.{found_is, parked_is, begins_at, are_leased}
 use Rattle.split_frontier.proofs.shards.Shards.try_enter.Goals as goal
