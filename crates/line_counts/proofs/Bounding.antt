@@ -1,5 +1,5 @@
 -- Why some part has no less than a column of a line.
-use Rattle.std.proofs.Common.{◌≡◌, ℕ, zero, suc, ◌+◌, ◌<◌, ◌≤◌, ◌&&◌, leb, ℤ, pos, ◌≤ℤ◌, ◌<ℤ◌, int_lt, int_le, Bool, true, false, cond, eqb, List, [], ◌∷◌, length, get_or, set, get_or-set_same, get_or-set_other, arith, refl, sym, ◌∙◌, ap, subst, ⊎_elim}
+use Rattle.std.proofs.Common.{◌≡◌, ℕ, zero, suc, ◌+◌, ◌<◌, ◌≤◌, ◌&&◌, leb, ℤ, pos, ◌≤ℤ◌, ◌<ℤ◌, int_lt, int_le, Bool, true, false, cond, eqb, List, [], ◌∷◌, length, get_or, set, get_or-set_same, get_or-set_other, arith, refl, sym, ◌∙◌, ap, subst, ◌⊎◌, inl, inr, ⊎_elim}
 use Rattle.std.specs.List.{count_by}
 use Rattle.std.proofs.lemmas.List.Sums.{sum_by-cons}
 use Rattle.std.proofs.lemmas.Int.{ints}
@@ -8,7 +8,7 @@ use Rattle.std.proofs.lemmas.Bool.Decides.{nat_tests}
 use Rattle.layout_geom.specs.declared.rect.Rect.{Rect}
 use Rattle.line_quality.specs.Points.{height_at, middle_of, is_crossed, Crosses}
 use Rattle.line_counts.specs.Fits.{segment_of, column_of_segment}
-use Rattle.line_counts.specs.Tops.{of_column}
+use Rattle.line_counts.specs.Tops.{of_column, weighed}
 use Rattle.line_counts.proofs.Summing.{of_none, of_next}
 
 count : (p : Rect → Bool) (g : Rect) (gs : List Rect) → count_by p (g ∷ gs) ≡ cond (p g) 1 0 + count_by p gs
@@ -163,6 +163,47 @@ module _ (col : ℕ → ℕ) (amount : ℕ → ℕ → ℕ) (all k n last next_l
       })
       (cases_eq held.part next_last))
       (cases_eq k (col n))
+
+-- a part that weighs no more than the most has what the first segments add to the column, place by place
+pub record IsPassed (col : ℕ → ℕ) (amount : ℕ → ℕ → ℕ) (all k n most : ℕ) : Type 0 where
+  pub part : List ℕ
+  pub enough : (place : ℕ) → place < all → of_column col (amount place) k n ≤ get_or part place 0
+  pub low : (more depth : ℕ) → more < 64 → depth ≤ 63 → weighed part more depth ≤ most
+
+-- or the sums have it
+abbrev pub IsCovered : (ℕ → ℕ) → (ℕ → ℕ → ℕ) → ℕ → ℕ → ℕ → ℕ → List ℕ → Type 0
+IsCovered col amount all k n most sums =
+    IsPassed col amount all k n most ⊎ ((place : ℕ) → place < all → of_column col (amount place) k n ≤ get_or sums place 0)
+
+-- a part ends: the sums weigh no more than the most
+pub all_passed : (col : ℕ → ℕ) (amount : ℕ → ℕ → ℕ) (all k n most new_most : ℕ) (sums : List ℕ) → most ≤ new_most
+    → ((more depth : ℕ) → more < 64 → depth ≤ 63 → weighed sums more depth ≤ new_most) → IsCovered col amount all k n most sums → IsPassed col amount all k n new_most
+all_passed col amount all k n most new_most sums order low held = ⊎_elim
+    (λ (passed : IsPassed col amount all k n most). record {
+      part = passed.part;
+      enough = passed.enough;
+      low = λ more depth less deep. omega (arith, order, passed.low more depth less deep);
+    })
+    (λ (here : (place : ℕ) → place < all → of_column col (amount place) k n ≤ get_or sums place 0). record { part = sums; enough = here; low = low })
+    held
+
+-- one segment more: its column is in the sums, and the others are where they were
+pub covered_more : (col : ℕ → ℕ) (amount : ℕ → ℕ → ℕ) (all k n most : ℕ) (sums new_sums : List ℕ)
+    → ((place : ℕ) → place < all → get_or new_sums place 0 ≡ get_or sums place 0 + amount place n)
+    → ((place : ℕ) → place < all → of_column col (amount place) (col n) n ≤ get_or sums place 0)
+    → IsCovered col amount all k n most sums → IsCovered col amount all k (n + 1) most new_sums
+covered_more col amount all k n most sums new_sums added here held = ⊎_elim
+    (λ same. inr (λ place less. omega (arith, of_joined col (amount place) k n same, here place less, added place less)))
+    (λ differs. ⊎_elim
+    (λ (passed : IsPassed col amount all k n most). inl (record {
+      part = passed.part;
+      enough = λ place less. omega (arith, of_kept col (amount place) k n differs, passed.enough place less);
+      low = passed.low;
+    }))
+    (λ (in_sums : (place : ℕ) → place < all → of_column col (amount place) k n ≤ get_or sums place 0).
+    inr (λ place less. omega (arith, of_kept col (amount place) k n differs, in_sums place less, added place less)))
+    held)
+    (cases_eq k (col n))
 
 -- a list of parts with one set
 pub part_set : (P : List ℕ → Type 0) (parts : List (List ℕ)) (i : ℕ) (sums : List ℕ) → i < length parts → P sums → (g : ℕ) → P (get_or parts g []) → P (get_or (set parts i sums) g [])

@@ -153,67 +153,82 @@ begun_with P Q before first word among = both_since P Q Q before first word amon
 abbrev pub row_at : Stretch → ℕ → Stretch
 row_at stretch depth = record stretch { shallowest = depth; deepest = depth }
 
--- some line of the stretch has the key, of a depth from one on
-pub record IsKeyFrom (page : LivingPage) (least : ℕ) (stretch : Stretch) (from key : ℕ) : Type 0 where
+-- some line of the stretch has the key, of a depth before one
+pub record IsKeyBefore (page : LivingPage) (least : ℕ) (stretch : Stretch) (to key : ℕ) : Type 0 where
   pub offset : ℤ
   pub from_offset : stretch.from ≤ℤ offset
   pub to_offset : offset <ℤ (stretch.from +ℤ pos stretch.offsets)
-  pub of : IsKeyOf page least stretch.slope offset from stretch.deepest key
+  pub depth : ℕ
+  pub from_depth : stretch.shallowest ≤ depth
+  pub before_depth : depth < to
+  pub at : IsKeyAt page least stretch.slope offset depth key
 
 module _ (page : LivingPage) (least : ℕ) (stretch : Stretch) where
-  pub no_row : (from before : ℕ) → from ≡ stretch.deepest + 1 → IsGreaterKey (IsKeyFrom page least stretch from) before before
-  no_row from before is = none_since (IsKeyFrom page least stretch from) before (λ k some. absurd (omega (arith, is, some.of.from_depth, some.of.to_depth)))
+  pub no_row : (to before : ℕ) → to ≡ stretch.shallowest → IsGreaterKey (IsKeyBefore page least stretch to) before before
+  no_row to before is = none_since (IsKeyBefore page least stretch to) before (λ k some. absurd (omega (arith, is, some.from_depth, some.before_depth)))
 
-  row_cases : (from key : ℕ) → IsKeyFrom page least stretch from key → IsKeyIn page least (row_at stretch from) key ⊎ IsKeyFrom page least stretch (from + 1) key
-  row_cases from key some = ⊎_elim
-      (λ less. inl (record {
+  row_cases : (to key : ℕ) → IsKeyBefore page least stretch (to + 1) key → IsKeyIn page least (row_at stretch to) key ⊎ IsKeyBefore page least stretch to key
+  row_cases to key some = ⊎_elim
+      (λ less. inr (record {
         offset = some.offset;
         from_offset = some.from_offset;
         to_offset = some.to_offset;
-        of = record { depth = some.of.depth; from_depth = some.of.from_depth; to_depth = omega (arith, less); at = some.of.at };
+        depth = some.depth;
+        from_depth = some.from_depth;
+        before_depth = less;
+        at = some.at;
       }))
-      (λ more. inr (record {
+      (λ more. inl (record {
         offset = some.offset;
         from_offset = some.from_offset;
         to_offset = some.to_offset;
-        of = record { depth = some.of.depth; from_depth = more; to_depth = some.of.to_depth; at = some.of.at };
+        of = record { depth = some.depth; from_depth = more; to_depth = omega (arith, some.before_depth); at = some.at };
       }))
-      (cases_lt some.of.depth (from + 1))
+      (cases_lt some.depth to)
 
-  -- one depth more, before the others
-  pub row_more : (from before best more : ℕ) → from ≤ stretch.deepest → IsGreaterKey (IsKeyFrom page least stretch (from + 1)) before best
-      → IsGreaterKey (IsKeyIn page least (row_at stretch from)) best more → IsGreaterKey (IsKeyFrom page least stretch from) before more
-  row_more from before best more low =
-      both_since (IsKeyFrom page least stretch (from + 1)) (IsKeyIn page least (row_at stretch from)) (IsKeyFrom page least stretch from) before best more
+  -- one depth more, behind the others
+  pub row_more : (to before best more : ℕ) → stretch.shallowest ≤ to → IsGreaterKey (IsKeyBefore page least stretch to) before best
+      → IsGreaterKey (IsKeyIn page least (row_at stretch to)) best more → IsGreaterKey (IsKeyBefore page least stretch (to + 1)) before more
+  row_more to before best more low =
+      both_since (IsKeyBefore page least stretch to) (IsKeyIn page least (row_at stretch to)) (IsKeyBefore page least stretch (to + 1)) before best more
       (λ k some. record {
         offset = some.offset;
         from_offset = some.from_offset;
         to_offset = some.to_offset;
-        of = record { depth = some.of.depth; from_depth = omega (arith, some.of.from_depth); to_depth = some.of.to_depth; at = some.of.at };
+        depth = some.depth;
+        from_depth = some.from_depth;
+        before_depth = omega (arith, some.before_depth);
+        at = some.at;
       })
       (λ k is. record {
         offset = is.offset;
         from_offset = is.from_offset;
         to_offset = is.to_offset;
-        of = record { depth = is.of.depth; from_depth = is.of.from_depth; to_depth = omega (arith, low, is.of.to_depth); at = is.of.at };
+        depth = is.of.depth;
+        from_depth = omega (arith, low, is.of.from_depth);
+        before_depth = omega (arith, is.of.to_depth);
+        at = is.of.at;
       })
-      (row_cases from)
+      (row_cases to)
 
   -- all depths
-  pub row_all : (from before key : ℕ) → from ≡ stretch.shallowest → IsGreaterKey (IsKeyFrom page least stretch from) before key → IsGreaterKey (IsKeyIn page least stretch) before key
-  row_all from before key first all =
-      renamed_since (IsKeyFrom page least stretch from) (IsKeyIn page least stretch) before key
+  pub row_all : (to before key : ℕ) → to ≡ stretch.deepest + 1 → IsGreaterKey (IsKeyBefore page least stretch to) before key → IsGreaterKey (IsKeyIn page least stretch) before key
+  row_all to before key last all =
+      renamed_since (IsKeyBefore page least stretch to) (IsKeyIn page least stretch) before key
       (λ k some. record {
         offset = some.offset;
         from_offset = some.from_offset;
         to_offset = some.to_offset;
-        of = record { depth = some.of.depth; from_depth = omega (arith, first, some.of.from_depth); to_depth = some.of.to_depth; at = some.of.at };
+        of = record { depth = some.depth; from_depth = some.from_depth; to_depth = omega (arith, last, some.before_depth); at = some.at };
       })
       (λ k is. record {
         offset = is.offset;
         from_offset = is.from_offset;
         to_offset = is.to_offset;
-        of = record { depth = is.of.depth; from_depth = omega (arith, first, is.of.from_depth); to_depth = is.of.to_depth; at = is.of.at };
+        depth = is.of.depth;
+        from_depth = is.of.from_depth;
+        before_depth = omega (arith, last, is.of.to_depth);
+        at = is.of.at;
       })
       all
 

@@ -251,6 +251,19 @@ to_times f w zero = omega arith
 to_times f w (suc n) =
     omega (arith, to_suc (λ k. w * f k) n, ap (λ (s : ℕ). w * s) (to_suc f n), to_times f w n)
 
+small_sum : (f : ℕ → ℕ) (n : ℕ) → ((k : ℕ) → f k ≤ 54066375) → sum_to f n ≤ n * 54066375
+small_sum f zero each = omega (arith, to_none f)
+small_sum f (suc n) each = omega (arith, to_suc f n, each n, small_sum f n each)
+
+-- small counts weigh little for the line of no depth
+pub bell_small : (counts : List ℕ) (place : ℕ) → ((k : ℕ) → get_or counts k 0 ≤ 2162655) → weighed counts place 0 ≤ 1000000000
+bell_small counts place small =
+    omega (
+      arith,
+      small_sum (λ k. get_or counts (place + k) 0 * weight_behind 0 k) (2 * 4 + 0 + 1)
+          (λ k. omega (arith, twenty_five (get_or counts (place + k) 0) (weight_behind 0 k) (weight_low 0 k), small (place + k))),
+    )
+
 pub weighs_all : (counts : List ℕ) (more depth all : ℕ) → more + (2 * 4 + depth + 1) ≤ all → weighed counts more depth ≤ 25 * sum_to (λ place. get_or counts place 0) all
 weighs_all counts more depth all inside =
     let x : ℕ → ℕ = λ place. get_or counts place 0 in

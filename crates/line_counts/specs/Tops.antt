@@ -1,12 +1,11 @@
 -- The counts of the parts into which gutters that all lines of a stretch cross divide a page, and what no line scores more than.
-use Rattle.std.specs.Prelude.{◌≡◌, ℕ, ◌+◌, ◌*◌, ◌<◌, ◌≤◌, ◌==◌, max, cond, pos, ◌+ℤ◌, List, [], map, length, slice_index, slice_index_or}
+use Rattle.std.specs.Prelude.{◌≡◌, ℕ, ◌+◌, ◌*◌, ◌<◌, ◌≤◌, ◌==◌, max, cond, Bool, false, IsTrue, pos, ◌+ℤ◌, List, [], map, length, slice_index, slice_index_or}
 use Rattle.std.specs.List.{sum_by, range_with_len}
 use Rattle.layout_geom.specs.declared.rect.Rect.{Rect}
 use Rattle.line_quality.specs.Points.{weight_at}
 use Rattle.line_quality.specs.Scores.{IsScore}
-use Rattle.line_counts.specs.declared.limits.TheConstants.{REACH, BATCH, MAX_PARTS, MAX_TOPS, MAX_PLACES, MAX_PART_COUNT}
+use Rattle.line_counts.specs.declared.limits.TheConstants.{REACH, BATCH, MAX_TOPS, MAX_PLACES, MAX_PART_COUNT}
 use Rattle.line_counts.specs.declared.stretch.Stretch.{Stretch}
-use Rattle.line_counts.specs.declared.parts.Parts.{Parts}
 use Rattle.line_counts.specs.Fits.{column_of_segment, count_of, first_place, apart, weight_behind}
 use Rattle.line_counts.specs.Table.{LivingPage}
 
@@ -15,6 +14,10 @@ abbrev pub IsCutBefore : List Rect → Stretch → ℕ → Type 0
 IsCutBefore gutters stretch segment = (more before : ℕ) → more < stretch.offsets → before < segment
     → column_of_segment stretch.slope (stretch.from +ℤ pos more) gutters before
     < column_of_segment stretch.slope (stretch.from +ℤ pos more) gutters segment
+
+-- at each of the marked segments each line of the stretch begins a column
+abbrev pub AreCuts : List Rect → Stretch → List Bool → Type 0
+AreCuts gutters stretch cuts = (segment : ℕ) → IsTrue (slice_index_or cuts segment false) → IsCutBefore gutters stretch segment
 
 -- the sum of what a function has for the first numbers
 abbrev pub sum_to : (ℕ → ℕ) → ℕ → ℕ
@@ -54,11 +57,11 @@ pub record AreBells (counts bells : List ℕ) : Type 0 where
   pub long : length bells ≡ MAX_TOPS
   pub value : (place : ℕ) → place < MAX_TOPS → slice_index bells place ≡ weighed counts place 0
 
--- the counts and the bells of parts
-pub record AreParts (parts : Parts) : Type 0 where
-  pub few : parts.number ≤ MAX_PARTS
-  pub counts : (part : ℕ) → part < MAX_PARTS → ArePartCounts (slice_index_or parts.counts part [])
-  pub bells : (part : ℕ) → part < parts.number → AreBells (slice_index_or parts.counts part []) (slice_index_or parts.bells part [])
+-- the counts and the bells of a number of parts, with room for more
+pub record AreParts (room number : ℕ) (all_counts all_bells : List (List ℕ)) : Type 0 where
+  pub few : number ≤ room
+  pub counts : (part : ℕ) → part < room → ArePartCounts (slice_index_or all_counts part [])
+  pub bells : (part : ℕ) → part < number → AreBells (slice_index_or all_counts part []) (slice_index_or all_bells part [])
 
 -- some of the first parts has no less than a column of a line of the stretch, whatever the line and the column
 abbrev pub HaveColumns : LivingPage → Stretch → ℕ → List (List ℕ) → Type 0

@@ -33,8 +33,8 @@ fn has_one(low: i32, high: i32) -> bool
     high - low == 1
 }
 
-/// Whether a shape has one line.
-pub(crate) fn is_single(shape: &Shape) -> bool
+/// Whether a shape of the grid has one line.
+pub fn is_single(shape: &Shape) -> bool
     requires { IsInGrid MAX_SIDE MAX_DEPTH shape.now }
     ensures { IsTrue result ↔ IsSingle shape.now }
 {

@@ -1,10 +1,10 @@
 //! Where a box stands: its segment between the gutters, and its place among the lines of a slope.
-ghost use Rattle.std.specs.Prelude.{◌≡◌, ◌+◌, ◌<◌, ◌≤◌, ◌≤ℤ◌, ◌&&◌, nat_le, length};
-ghost use Rattle.line_quality.specs.Points.{IsSlope, is_crossed, middle_of};
+ghost use Rattle.std.specs.Prelude.{◌≡◌, ◌+◌, ◌<◌, ◌≤◌, ◌≤ℤ◌, ℕ, cond, nat_le, length, slice_index};
+ghost use Rattle.line_quality.specs.Points.{IsSlope};
 ghost use Rattle.line_counts.specs.Fits;
 ghost use Rattle.line_counts.specs.Fits.{slope_of};
 
-use crate::limits::{MAX_TABLE_GUTTERS, PLACES_ABOVE, PLACES_BEYOND, SLOPES};
+use crate::limits::{MAX_SEGMENTS, MAX_TABLE_GUTTERS, PLACES_ABOVE, PLACES_BEYOND, SLOPES};
 use layout_geom::{Rect, Rects};
 use line_quality::{LEAST_OFFSET, LEAST_SLOPE, OFFSET_MARGIN, crosses, height_at, middle};
 
@@ -39,26 +39,34 @@ pub(crate) fn segment(gutters: &Rects, anchor: u16) -> usize
         .count()
 }
 
-/// Whether a line crosses a gutter whose middle is in a segment or left of it.
-fn is_cut(slope: i8, offset: i16, gutters: &Rects, gutter: &Rect, of_segment: usize) -> bool
-    ensures { result ≡ (is_crossed slope offset gutter.now && nat_le (Fits.segment_of gutters.now (middle_of gutter.now)) of_segment) }
+/// Counts one column more for the segments from one on.
+fn begin_column(columns: &mut [usize], from: usize)
+    requires long { length columns.old ≡ MAX_SEGMENTS }
+    requires room { (of_segment : ℕ) → slice_index columns.old of_segment ≤ MAX_TABLE_GUTTERS }
+    ensures long { length columns.new ≡ MAX_SEGMENTS }
+    ensures value { (of_segment : ℕ) → of_segment < MAX_SEGMENTS
+        → slice_index columns.new of_segment ≡ slice_index columns.old of_segment + cond (nat_le from of_segment) 1 0 }
+    ensures small { (of_segment : ℕ) → slice_index columns.new of_segment ≤ slice_index columns.old of_segment + 1 }
 {
-    crosses(slope, offset, gutter) && segment(gutters, middle(gutter)) <= of_segment
+    for of_segment in from..MAX_SEGMENTS {
+        columns[of_segment] += 1;
+    }
 }
 
-/// The column of a segment for the lines of a slope and an offset.
-pub(crate) fn column(slope: i8, offset: i16, gutters: &Rects, of_segment: usize) -> usize
+/// The column of each segment for the lines of a slope and an offset: how many crossed gutters have their middle in it or left of it.
+pub(crate) fn columns(slope: i8, offset: i16, gutters: &Rects) -> [usize; MAX_SEGMENTS]
     requires { length gutters.now ≤ MAX_TABLE_GUTTERS }
-    ensures value { result ≡ Fits.column_of_segment slope offset gutters.now of_segment }
-    ensures few { result ≤ length gutters.now }
+    ensures value { (of_segment : ℕ) → of_segment < MAX_SEGMENTS
+        → slice_index result of_segment ≡ Fits.column_of_segment slope offset gutters.now of_segment }
+    ensures few { (of_segment : ℕ) → slice_index result of_segment ≤ length gutters.now }
 {
-    let mut column = 0;
+    let mut columns = [0; MAX_SEGMENTS];
     for gutter in gutters.as_slice() {
-        if is_cut(slope, offset, gutters, gutter, of_segment) {
-            column += 1;
+        if crosses(slope, offset, gutter) {
+            begin_column(columns.as_mut_slice(), segment(gutters, middle(gutter)));
         }
     }
-    column
+    columns
 }
 
 /// The number of a slope.

@@ -23,6 +23,7 @@ mod table;
 mod tests;
 mod tops;
 
+pub use bounds::is_single;
 pub use counts::Counts;
 pub use keys::Keys;
 pub use limits::{MAX_TABLE_BOXES, MAX_TABLE_BYTES, MAX_TABLE_GUTTERS};

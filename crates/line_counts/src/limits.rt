@@ -5,7 +5,7 @@ use line_quality::{MAX_DEPTH, MAX_SLOPE, OFFSET_MARGIN};
 pub(crate) const SLOPES: usize = 2 * MAX_SLOPE as usize + 1;
 
 /// The most gutters of a page with a table: each takes as much memory as all rows of a page with none.
-pub const MAX_TABLE_GUTTERS: usize = 16;
+pub const MAX_TABLE_GUTTERS: usize = 32;
 
 /// The most segments between so many gutters.
 pub(crate) const MAX_SEGMENTS: usize = MAX_TABLE_GUTTERS + 1;
@@ -33,9 +33,6 @@ pub(crate) const MAX_TOPS: usize = BATCH as usize + MAX_DEPTH as usize + 1;
 
 /// The most places that weigh something for them.
 pub(crate) const MAX_PLACES: usize = MAX_TOPS + 2 * REACH as usize;
-
-/// The most parts into which gutters that all lines cross divide a page: the last has what is behind the others.
-pub(crate) const MAX_PARTS: usize = 3;
 
 /// The most that counts of 16 bits of all segments come to together.
 pub(crate) const MAX_PART_COUNT: u32 = MAX_SEGMENTS as u32 * 65_535;

@@ -1,26 +1,27 @@
 //! The counts of the parts into which gutters divide a page: no line of a stretch has a column on both sides of a gutter that all
 //! of them cross.
 ghost use Rattle.std.specs.Prelude.{◌≡◌, ◌+◌, ◌*◌, ◌<◌, ◌≤◌, pos, ◌+ℤ◌, ◌≤ℤ◌, ℕ, [], length, slice_index, slice_index_or, IsTrue};
-ghost use Rattle.line_quality.specs.Points.{IsSlope, Crosses, middle_of};
-ghost use Rattle.line_counts.specs.Fits.{segment_of};
+ghost use Rattle.line_quality.specs.Points.{IsSlope, Crosses};
 ghost use Rattle.line_counts.specs.Stretches.{IsOfPage};
-ghost use Rattle.line_counts.specs.Tops.{IsCutBefore, ArePartCounts, AreBells, AreParts, HaveColumns, count_behind, weighed};
+ghost use Rattle.line_counts.specs.Tops.{AreCuts, ArePartCounts, AreBells, AreParts, HaveColumns, count_behind, weighed};
 
 use crate::counts::Counts;
 use crate::fit::segment;
 use crate::limits::{
-    BATCH, MAX_PART_COUNT, MAX_PARTS, MAX_PLACES, MAX_TABLE_BOXES, MAX_TOPS, REACH,
+    BATCH, MAX_PART_COUNT, MAX_PLACES, MAX_SEGMENTS, MAX_TABLE_BOXES, MAX_TABLE_GUTTERS, MAX_TOPS,
+    REACH,
 };
 use crate::stretch::Stretch;
 use layout_geom::{Rect, Rects};
 use layout_limits::MAX_SIDE;
 use line_quality::{LEAST_OFFSET, OFFSET_MARGIN, crosses, middle};
 
-/// The counts of the parts for a stretch, summed over the segments of each, and what they weigh for its lines of no depth.
+/// The counts of at most so many parts for a stretch, summed over the segments of each, and what they weigh for its lines of no
+/// depth. Where there are more the last has the rest.
 #[derive(Drop)]
-pub(crate) struct Parts {
-    pub(crate) counts: [[u32; MAX_PLACES]; MAX_PARTS],
-    pub(crate) bells: [[u32; MAX_TOPS]; MAX_PARTS],
+pub(crate) struct Parts<const N: usize> {
+    pub(crate) counts: [[u32; MAX_PLACES]; N],
+    pub(crate) bells: [[u32; MAX_TOPS]; N],
     pub(crate) number: usize,
 }
 
@@ -31,13 +32,6 @@ fn offset_behind(from: i16, behind: u16) -> i16
     ensures { result ≡ from +ℤ pos behind }
 {
     (from as i32 + behind as i32) as i16
-}
-
-/// Whether a segment begins with the middle of a gutter.
-fn begins(gutters: &Rects, gutter: &Rect, of_segment: usize) -> bool
-    ensures { IsTrue result → segment_of gutters.now (middle_of gutter.now) ≡ of_segment }
-{
-    segment(gutters, middle(gutter)) == of_segment
 }
 
 /// Whether all lines of a stretch cross a gutter: it does not look at those between the first and one behind the last.
@@ -56,6 +50,32 @@ fn crosses_all(stretch: &Stretch, gutter: &Rect) -> bool
         )
 }
 
+/// Which segments begin with a gutter that all lines of a stretch cross: another part begins there.
+fn cuts(stretch: &Stretch, gutters: &Rects) -> [bool; MAX_SEGMENTS]
+    requires slope { IsSlope stretch.now.slope }
+    requires low { LEAST_OFFSET ≤ℤ stretch.now.from }
+    requires high { (stretch.now.from +ℤ pos stretch.now.offsets) ≤ℤ pos (MAX_SIDE + OFFSET_MARGIN + 1) }
+    requires few_gutters { length gutters.now ≤ MAX_TABLE_GUTTERS }
+    ensures { AreCuts gutters.now stretch.now result }
+{
+    let mut cuts = [false; MAX_SEGMENTS];
+    for gutter in gutters.as_slice() {
+        if crosses_all(stretch, gutter) {
+            cuts[segment(gutters, middle(gutter))] = true;
+        }
+    }
+    cuts
+}
+
+/// Whether another part than this begins, where there is room for one.
+fn begins_part(part: usize, room: usize, cut: bool) -> bool
+    requires { part < room }
+    ensures cut { IsTrue result → IsTrue cut }
+    ensures room { IsTrue result → part + 1 < room }
+{
+    cut && part + 1 < room
+}
+
 /// What counts weigh for the line of no depth of a place.
 fn bell(counts: &[u32], place: usize) -> u32
     requires counts { ArePartCounts counts.now }
@@ -70,7 +90,7 @@ fn bell(counts: &[u32], place: usize) -> u32
 }
 
 /// What counts weigh for each line of no depth.
-fn bells(counts: &[u32]) -> [u32; MAX_TOPS]
+pub(crate) fn bells(counts: &[u32]) -> [u32; MAX_TOPS]
     requires { ArePartCounts counts.now }
     ensures { AreBells counts.now result }
 {
@@ -82,16 +102,19 @@ fn bells(counts: &[u32]) -> [u32; MAX_TOPS]
 }
 
 /// The parts with their bells.
-fn with_bells(counts: [[u32; MAX_PLACES]; MAX_PARTS], number: usize) -> Parts
-    requires few { number ≤ MAX_PARTS }
-    requires counts { (part : ℕ) → part < MAX_PARTS → ArePartCounts (slice_index_or counts part []) }
-    ensures counts { result.counts ≡ counts }
+fn with_bells<const N: usize>(counts: [[u32; MAX_PLACES]; N], number: usize) -> Parts<N>
+    requires few { number ≤ N }
+    requires little_room { N ≤ MAX_SEGMENTS }
+    requires counts { (part : ℕ) → part < N → ArePartCounts (slice_index_or counts part []) }
+    ensures counts { result.counts ≡ counts.entry }
     ensures number { result.number ≡ number }
-    ensures bells { (part : ℕ) → part < number → AreBells (slice_index_or counts part []) (slice_index_or result.bells part []) }
+    ensures bells { (part : ℕ) → part < number → AreBells (slice_index_or counts.entry part []) (slice_index_or result.bells part []) }
 {
-    let mut all = [[0; MAX_TOPS]; MAX_PARTS];
+    let mut all = [[0; MAX_TOPS]; N];
+    let each = &counts[..];
     for part in 0..number {
-        all[part] = bells(&counts[part]);
+        let counts = &each[part];
+        all[part] = bells(counts);
     }
     Parts {
         counts,
@@ -101,26 +124,16 @@ fn with_bells(counts: [[u32; MAX_PLACES]; MAX_PARTS], number: usize) -> Parts
 }
 
 impl Counts {
-    /// Whether another part than this begins with the segment: all lines of a stretch cross a gutter with whose middle it does.
-    fn begins_part(&self, stretch: &Stretch, part: usize, of_segment: usize) -> bool
-        requires of_page { IsOfPage self.now.height stretch.now }
-        requires part { part < MAX_PARTS }
-        ensures cut { IsTrue result → IsCutBefore self.now.gutters stretch.now of_segment }
-        ensures room { IsTrue result → part + 1 < MAX_PARTS }
+    /// Which segments begin with a gutter that all lines of a stretch cross.
+    pub(crate) fn cuts(&self, stretch: &Stretch) -> [bool; MAX_SEGMENTS]
+        requires { IsOfPage self.now.height stretch.now }
+        ensures { AreCuts self.now.gutters stretch.now result }
     {
-        if part + 1 >= MAX_PARTS {
-            return false;
-        }
-        for gutter in self.gutters.as_slice() {
-            if begins(&self.gutters, gutter, of_segment) && crosses_all(stretch, gutter) {
-                return true;
-            }
-        }
-        false
+        cuts(stretch, &self.gutters)
     }
 
     /// Adds the counts of a segment at the places that weigh something for a stretch.
-    fn add_counts(&self, sums: &mut [u32], stretch: &Stretch, of_segment: usize)
+    pub(crate) fn add_counts(&self, sums: &mut [u32], stretch: &Stretch, of_segment: usize)
         requires of_page { IsOfPage self.now.height stretch.now }
         requires some { 0 < stretch.now.offsets }
         requires few { stretch.now.offsets ≤ BATCH }
@@ -140,20 +153,27 @@ impl Counts {
     }
 
     /// The counts of the parts for a stretch.
-    fn part_counts(&self, stretch: &Stretch) -> ([[u32; MAX_PLACES]; MAX_PARTS], usize)
+    fn part_counts<const N: usize>(
+        &self,
+        stretch: &Stretch,
+        cuts: &[bool; MAX_SEGMENTS],
+    ) -> ([[u32; MAX_PLACES]; N], usize)
+        requires room { 0 < N }
+        requires little_room { N ≤ MAX_SEGMENTS }
         requires of_page { IsOfPage self.now.height stretch.now }
+        requires cuts { AreCuts self.now.gutters stretch.now cuts.now }
         requires some { 0 < stretch.now.offsets }
         requires few { stretch.now.offsets ≤ BATCH }
         ensures alive { length self.now.alive ≤ MAX_TABLE_BOXES }
-        ensures few { result.1 ≤ MAX_PARTS }
-        ensures counts { (part : ℕ) → part < MAX_PARTS → ArePartCounts (slice_index_or result.0 part []) }
+        ensures few { result.1 ≤ N }
+        ensures counts { (part : ℕ) → part < N → ArePartCounts (slice_index_or result.0 part []) }
         ensures columns { HaveColumns self.now stretch.now result.1 result.0 }
     {
-        let mut counts = [[0; MAX_PLACES]; MAX_PARTS];
+        let mut counts = [[0; MAX_PLACES]; N];
         let mut sums = [0; MAX_PLACES];
         let mut part = 0;
         for of_segment in 0..self.gutters.len() + 1 {
-            if self.begins_part(stretch, part, of_segment) {
+            if begins_part(part, N, cuts[of_segment]) {
                 sums = [0; MAX_PLACES];
                 part += 1;
             }
@@ -164,15 +184,22 @@ impl Counts {
     }
 
     /// The parts for a stretch.
-    pub(crate) fn parts(&self, stretch: &Stretch) -> Parts
+    pub(crate) fn parts<const N: usize>(
+        &self,
+        stretch: &Stretch,
+        cuts: &[bool; MAX_SEGMENTS],
+    ) -> Parts<N>
+        requires room { 0 < N }
+        requires little_room { N ≤ MAX_SEGMENTS }
+        requires cuts { AreCuts self.now.gutters stretch.now cuts.now }
         requires of_page { IsOfPage self.now.height stretch.now }
         requires some { 0 < stretch.now.offsets }
         requires few { stretch.now.offsets ≤ BATCH }
         ensures alive { length self.now.alive ≤ MAX_TABLE_BOXES }
-        ensures parts { AreParts result }
+        ensures parts { AreParts N result.number result.counts result.bells }
         ensures columns { HaveColumns self.now stretch.now result.number result.counts }
     {
-        let (counts, number) = self.part_counts(stretch);
+        let (counts, number) = self.part_counts::<N>(stretch, cuts);
         with_bells(counts, number)
     }
 }

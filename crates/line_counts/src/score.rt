@@ -6,7 +6,7 @@ ghost use Rattle.line_counts.specs.Fits;
 ghost use Rattle.line_counts.specs.Table.{IsRow};
 
 use crate::counts::Counts;
-use crate::fit::{column, first_place, number};
+use crate::fit::{columns, first_place, number};
 use crate::limits::{MAX_SEGMENTS, REACH};
 use crate::table::cell;
 use line_quality::{
@@ -69,11 +69,10 @@ impl Counts {
         ensures small { result.score ≤ MAX_SCORE }
         ensures of_grid { IsOffset offset }
     {
+        let columns = columns(slope, offset, &self.gutters);
         let mut sums = [0; MAX_SEGMENTS];
         for of_segment in 0..self.gutters.len() + 1 {
-            sums[column(slope, offset, &self.gutters, of_segment)] += self.segment_weight(
-                slope, offset, depth, of_segment,
-            );
+            sums[columns[of_segment]] += self.segment_weight(slope, offset, depth, of_segment);
         }
         greatest(&sums)
     }

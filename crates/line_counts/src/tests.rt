@@ -164,5 +164,9 @@ fn pages_with_few_gutters_get_a_table(rt: HostRuntime) -> Result<(), Fail> {
     let many = rects(rt.alloc(), &[(36, 0, 48, 41); 14])?;
     assert!(rt; fits_table(7500, &many));
     assert!(rt; !fits_table(8192, &many));
+    let most = rects(rt.alloc(), &[(36, 0, 48, 41); 32])?;
+    assert!(rt; fits_table(3000, &most));
+    let too_many = rects(rt.alloc(), &[(36, 0, 48, 41); 33])?;
+    assert!(rt; !fits_table(100, &too_many));
     Ok(())
 }

@@ -6,7 +6,8 @@ ghost use Rattle.line_counts.specs.declared.stretch.Stretch.{Stretch};
 ghost use Rattle.line_counts.specs.Stretches.{IsOfPage};
 ghost use Rattle.line_counts.specs.Table.{LivingPage};
 
-use crate::limits::{BATCH, MAX_PARTS, MAX_PLACES, MAX_TOPS, REACH};
+use crate::greatest::greatest_of_first;
+use crate::limits::{BATCH, MAX_PLACES, MAX_SEGMENTS, MAX_TOPS, REACH};
 use crate::parts::Parts;
 use line_quality::{MAX_DEPTH, MAX_WEIGHT, weight_at};
 
@@ -52,16 +53,35 @@ fn lessen(sums: &mut [u32], counts: &[u32], from: usize, less: u32)
     }
 }
 
-/// What counts weigh for the lines of a depth: as much as for the lines and those of their descenders, but for what weighs something
-/// for both.
-fn line_sums(counts: &[u32], bells: &[u32], depth: u8) -> [u32; BATCH as usize]
+/// The first bells, one for each line of no depth.
+fn first_bells(bells: &[u32]) -> [u32; BATCH as usize]
+    requires long { length bells.now ≡ MAX_TOPS }
+    ensures long { length result ≡ BATCH }
+    ensures value { (more : ℕ) → more < BATCH → slice_index result more ≡ slice_index bells.now more }
+{
+    let mut first = [0; BATCH as usize];
+    for more in 0..BATCH as usize {
+        first[more] = bells[more];
+    }
+    first
+}
+
+/// What counts weigh at most for the lines of a depth: as much as for the lines and those of their descenders, but for what weighs
+/// something for both. Where all of them weigh less than enough anyhow, that stays in.
+fn line_sums(counts: &[u32], bells: &[u32], depth: u8, enough: u64) -> [u32; BATCH as usize]
     requires counts { ArePartCounts counts.now }
     requires bells { AreBells counts.now bells.now }
     requires depth { depth ≤ MAX_DEPTH }
     ensures long { length result ≡ BATCH }
-    ensures value { (more : ℕ) → more < BATCH → slice_index result more ≡ weighed counts.now more depth }
+    ensures over { (more : ℕ) → more < BATCH → weighed counts.now more depth ≤ slice_index result more }
 {
+    if depth == 0 {
+        return first_bells(bells);
+    }
     let mut sums = both_bells(bells, depth);
+    if (greatest_of_first(&sums, BATCH as usize) as u64) < enough {
+        return sums;
+    }
     for behind in 0..9 - depth.min(9) {
         lessen(
             sums.as_mut_slice(),
@@ -84,9 +104,14 @@ fn raise_to(each: &mut [u32], sums: &[u32])
     }
 }
 
-/// What no line of a depth scores more than, offset by offset.
-pub(crate) fn tops(parts: &Parts, depth: u8) -> [u32; BATCH as usize]
-    requires parts { AreParts parts.now }
+/// What no line of a depth scores more than, offset by offset. It need not be sharp below enough.
+pub(crate) fn tops<const N: usize>(
+    parts: &Parts<N>,
+    depth: u8,
+    enough: u64,
+) -> [u32; BATCH as usize]
+    requires little_room { N ≤ MAX_SEGMENTS }
+    requires parts { AreParts N parts.now.number parts.now.counts parts.now.bells }
     requires depth { depth ≤ MAX_DEPTH }
     ensures long { length result ≡ BATCH }
     ensures over { (page : LivingPage) (stretch : Stretch) → IsOfPage page.height stretch → stretch.offsets ≤ BATCH → depth ≤ stretch.deepest
@@ -94,7 +119,9 @@ pub(crate) fn tops(parts: &Parts, depth: u8) -> [u32; BATCH as usize]
 {
     let mut tops = [0; BATCH as usize];
     for part in 0..parts.number {
-        let sums = line_sums(&parts.counts[part], &parts.bells[part], depth);
+        let counts = &parts.counts[part];
+        let bells = &parts.bells[part];
+        let sums = line_sums(counts, bells, depth, enough);
         raise_to(tops.as_mut_slice(), &sums);
     }
     tops

@@ -25,21 +25,6 @@ use Rattle.line_search.proofs.Singles.{single_nearest, single_score}
 first_depth : (c0 : ℤ) → pos 0 ≤ℤ c0 → pos (unsigned_abs c0) ≡ c0
 first_depth c0 from = omega (arith, ints, abs_parts c0)
 
-pub wider : (height deep : ℕ) (shape : Shape) → IsInGrid height deep shape → IsInGrid 8192 63 shape
-wider height deep shape grid = record {
-  page = omega arith;
-  depths = omega arith;
-  from_slope = grid.from_slope;
-  some_slope = grid.some_slope;
-  to_slope = grid.to_slope;
-  from_offset = grid.from_offset;
-  some_offset = grid.some_offset;
-  to_offset = omega (arith, ints, grid.page, grid.to_offset);
-  from_depth = grid.from_depth;
-  some_depth = grid.some_depth;
-  to_depth = omega (arith, ints, grid.depths, grid.to_depth);
-}
-
 pub first_point : (height median : ℕ) (shape : Shape) → IsInGrid height (deepest median) shape
     → IsPoint height median shape.a0 shape.b0 (least_depth shape)
 first_point height median shape grid = record {

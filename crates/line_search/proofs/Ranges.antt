@@ -1,7 +1,6 @@
 -- Ranges of whole numbers.
-use Rattle.std.proofs.Common.{◌≡◌, ℕ, ◌+◌, ◌*◌, ◌^◌, ◌<◌, ◌≤◌, ℤ, pos, negsuc, ◌+ℤ◌, ◌-ℤ◌, ◌≤ℤ◌, ◌<ℤ◌, nat_abs, nat_eq, int_lt, int_le, Bool, false, ◌&&◌, true, to_z, of_z, w8, w16, w32, arith, IsTrue, refl, sym, ◌∙◌}
+use Rattle.std.proofs.Common.{◌≡◌, ℕ, ◌+◌, ◌*◌, ◌^◌, ◌<◌, ◌≤◌, ℤ, pos, negsuc, ◌+ℤ◌, ◌-ℤ◌, ◌≤ℤ◌, ◌<ℤ◌, nat_abs, int_lt, int_le, Bool, false, ◌&&◌, true, to_z, of_z, w8, w16, w32, arith, refl, sym, ◌∙◌}
 use Rattle.std.proofs.lemmas.Int.{ints, clamps, by_lt_z}
-use Rattle.std.proofs.lemmas.Bool.Decides.{nat_tests}
 use Rattle.std.specs.Int.{int_gap, int_max, int_min, int_div_euclid}
 use Rattle.box_search.specs.declared.space.Shape.{Shape}
 use Rattle.line_quality.specs.Points.{height_at, IsSlope}
@@ -9,10 +8,8 @@ use Rattle.line_counts.specs.Shapes.{IsInGrid, whole_grid}
 use Rattle.line_counts.specs.Plain.{nearest_slope}
 use Rattle.line_search.specs.Parts.{half}
 use Rattle.line_counts.proofs.Growing.{int_gap_is}
+use Rattle.line_counts.proofs.Ranges.{in_32}
 use borrow.Author.Differences.{up, down}
-
-pub length_one : (low high : ℤ) → negsuc 9999 ≤ℤ low → low <ℤ high → high ≤ℤ pos 9999 → (IsTrue (nat_eq (of_z w32 (to_z w32 (of_z w32 high) -ℤ to_z w32 (of_z w32 low))) 1) → high ≡ low +ℤ pos 1) × (high ≡ low +ℤ pos 1 → IsTrue (nat_eq (of_z w32 (to_z w32 (of_z w32 high) -ℤ to_z w32 (of_z w32 low))) 1))
-length_one low high a b c = (grind (arith, ints, nat_tests), grind (arith, ints, nat_tests))
 
 pub in_8 : (z : ℤ) → negsuc 31 ≤ℤ z → z ≤ℤ pos 32 → to_z w8 (of_z w8 (to_z w32 (of_z w32 z))) ≡ z
 in_8 z low high = omega (arith, ints)
@@ -25,9 +22,6 @@ in_16 z low high = omega (arith, ints)
 
 pub in_16_less : (z : ℤ) → negsuc 299 ≤ℤ z → z ≤ℤ pos 9000 → to_z w16 (of_z w16 (to_z w32 (of_z w32 (to_z w32 (of_z w32 z) -ℤ pos 1)))) ≡ z -ℤ pos 1
 in_16_less z low high = omega (arith, ints)
-
-pub in_32 : (z : ℤ) → negsuc 9999 ≤ℤ z → z ≤ℤ pos 9999 → to_z w32 (of_z w32 z) ≡ z
-in_32 z low high = omega (arith, ints)
 
 pub back_32 : (z : ℤ) → negsuc 49999 ≤ℤ z → z ≤ℤ pos 50000 → to_z w32 (of_z w32 z) ≡ z
 back_32 z low high = omega (arith, ints)
@@ -103,16 +97,6 @@ offsets_long a0 a1 b0 b1 c0 c1 slopes offsets depths some_a some_b some_c wide a
     by_lt_z b1 (b0 +ℤ pos 2)
     (λ short. absurd (wide (omega (arith, ints)) (omega (arith, ints)) (omega (arith, ints))))
     (λ long. long)
-
-pub kept_in : (shape : Shape) → IsInGrid 8192 63 shape → (to_z w32 (of_z w32 shape.a0) ≡ shape.a0) × (to_z w32 (of_z w32 shape.a1) ≡ shape.a1) × (to_z w32 (of_z w32 shape.b0) ≡ shape.b0) × (to_z w32 (of_z w32 shape.b1) ≡ shape.b1) × (to_z w32 (of_z w32 shape.c0) ≡ shape.c0) × (to_z w32 (of_z w32 shape.c1) ≡ shape.c1)
-kept_in shape grid = (
-  in_32 shape.a0 (omega (arith, ints, grid.from_slope)) (omega (arith, ints, grid.some_slope, grid.to_slope)),
-  in_32 shape.a1 (omega (arith, ints, grid.from_slope, grid.some_slope)) (omega (arith, ints, grid.to_slope)),
-  in_32 shape.b0 (omega (arith, ints, grid.from_offset)) (omega (arith, ints, grid.some_offset, grid.to_offset)),
-  in_32 shape.b1 (omega (arith, ints, grid.from_offset, grid.some_offset)) (omega (arith, ints, grid.to_offset)),
-  in_32 shape.c0 (omega (arith, ints, grid.from_depth)) (omega (arith, ints, grid.some_depth, grid.to_depth)),
-  in_32 shape.c1 (omega (arith, ints, grid.from_depth, grid.some_depth)) (omega (arith, ints, grid.to_depth)),
-)
 
 pub offsets_cut : (shape : Shape) → IsInGrid 8192 63 shape → (middle : ℤ) → middle ≡ half (to_z w16 (of_z w16 (to_z w32 (of_z w32 shape.b0)))) (to_z w16 (of_z w16 (to_z w32 (of_z w32 shape.b1)))) → to_z w32 (of_z w32 middle) ≡ half shape.b0 shape.b1
 offsets_cut shape grid middle is =

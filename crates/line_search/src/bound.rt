@@ -1,32 +1,14 @@
 //! What all lines of a shape have in common: how near they pass to a box, and which gutters they cross.
-ghost use Rattle.std.specs.Prelude.{◌≡◌, ◌+◌, ◌≤◌, ◌↔◌, IsTrue, Some, pos, negsuc, ◌+ℤ◌, ◌≤ℤ◌, ◌<ℤ◌};
+ghost use Rattle.std.specs.Prelude.{◌≡◌, ◌+◌, ◌≤◌, Some, pos, negsuc, ◌≤ℤ◌};
 ghost use Rattle.std.specs.Int.{int_gap};
 ghost use Rattle.line_counts.specs.Plain;
 ghost use Rattle.line_search.specs.Bounds;
-ghost use Rattle.line_counts.specs.Shapes.{IsInGrid, IsSingle};
+ghost use Rattle.line_counts.specs.Shapes.{IsInGrid};
 
 use box_search::Shape;
 use layout_geom::Rect;
 use layout_limits::MAX_SIDE;
 use line_quality::{MAX_DEPTH, MAX_WEIGHT, height_at, middle, weight_at};
-
-/// Whether a range has one number.
-fn has_one(low: i32, high: i32) -> bool
-    requires low { negsuc 9999 ≤ℤ low }
-    requires some { low <ℤ high }
-    requires high { high ≤ℤ pos 9999 }
-    ensures { IsTrue result ↔ (high ≡ low +ℤ pos 1) }
-{
-    high - low == 1
-}
-
-/// Whether a shape has one point.
-pub(crate) fn is_single(shape: &Shape) -> bool
-    requires { IsInGrid MAX_SIDE MAX_DEPTH shape.now }
-    ensures { IsTrue result ↔ IsSingle shape.now }
-{
-    has_one(shape.a0, shape.a1) && has_one(shape.b0, shape.b1) && has_one(shape.c0, shape.c1)
-}
 
 /// The slope of a shape that is nearest to 0.
 pub(crate) fn nearest_slope(shape: &Shape) -> i8

@@ -2,7 +2,7 @@
 ghost use Rattle.std.specs.Prelude.{◌≡◌};
 ghost use Rattle.line_search.specs.Lines;
 
-use crate::bound::{is_single, nearest_slope};
+use crate::bound::nearest_slope;
 use crate::line::Line;
 use crate::living::{Lists, Living};
 use crate::members::{Division, Winner, divide, farthest, least_round};
@@ -12,7 +12,7 @@ use crate::span::Span;
 use box_search::{Node, Shape, Space, Step};
 use layout_geom::{Numbers, Rects};
 use layout_limits::{MAX_SIDE, OutOfMemory};
-use line_counts::{Counts, Keys, fits_table};
+use line_counts::{Counts, Keys, fits_table, is_single};
 use line_quality::{
     LEAST_OFFSET, LEAST_SLOPE, MAX_DEPTH, MAX_GUTTERS, MAX_SLOPE, OFFSET_MARGIN, Score, line_key,
     point_of, score_at,

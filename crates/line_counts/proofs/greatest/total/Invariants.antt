@@ -5,5 +5,5 @@ use Rattle.line_counts.proofs.greatest.total.Given as goal
 abbrev pub invariant-loop-place : goal.invariant-loop-place
 invariant-loop-place l = record {
   value : l.total ≡ sum_to (λ place. get_or l.counts place 0) l.place;
-  small : l.total ≤ l.place * 1114095;
+  small : l.total ≤ l.place * 2162655;
 }

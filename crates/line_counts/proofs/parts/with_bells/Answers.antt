@@ -5,7 +5,7 @@ use Rattle.line_counts.specs.Tops.{AreBells}
 use Rattle.line_counts.proofs.parts.with_bells.Goals as goal
 
 pub loop-part-preserved : goal.loop-part-preserved
-loop-part-preserved c =
+loop-part-preserved g c =
     let all : List (List ℕ) = c.loop-part.all in
     let i = c.loop-part.part in
     let counts : List (List ℕ) = c.args.counts in

@@ -1,6 +1,6 @@
 use Rattle.std.proofs.Common.{◌≡◌, ◌+◌, ◌-◌, ◌*◌, ◌≤◌, min, ℕ, List, get_or, arith, ap, ◌∙◌}
-use Rattle.line_counts.specs.Tops.{common_weight}
-use Rattle.line_counts.proofs.Summing.{to_next, weighs_both, common_sum_low, common_sum_all}
+use Rattle.line_counts.specs.Tops.{common_weight, weighed}
+use Rattle.line_counts.proofs.Summing.{to_next, weighs_both, weighs_less, common_sum_low, common_sum_all}
 use Rattle.line_counts.proofs.tops.line_sums.Goals as goal
 
 turned : (depth behind more : ℕ) → depth + behind + more ≡ more + depth + behind
@@ -53,8 +53,28 @@ lessen-requires-clause-enough c =
       c.loop-behind.invariant.done more less,
     )
 
-pub returns-clause-value : goal.returns-clause-value
-returns-clause-value c =
+pub returns-then-depth-eq0-clause-over : goal.returns-then-depth-eq0-clause-over
+returns-then-depth-eq0-clause-over c =
+    let counts : List ℕ = c.args.counts.now in
+    let flat : c.args.depth ≡ 0 = omega (arith, c.if-depth-eq0.true) in
+    λ more less.
+    omega (arith, ap (weighed counts more) flat, c.first_bells.ensures.value more less, c.requires.bells.value more (omega (arith, less)))
+
+pub returns-then-greatest_of_first-enough-clause-over : goal.returns-then-greatest_of_first-enough-clause-over
+returns-then-greatest_of_first-enough-clause-over c =
+    let counts : List ℕ = c.args.counts.now in
+    let depth = c.args.depth in
+    λ more less.
+    omega (
+      arith,
+      weighs_less counts more depth,
+      c.both_bells-sums.ensures.value more less,
+      c.requires.bells.value more (omega (arith, less)),
+      c.requires.bells.value (more + depth) (omega (arith, less, c.requires.depth)),
+    )
+
+pub returns-clause-over : goal.returns-clause-over
+returns-clause-over c =
     let counts : List ℕ = c.args.counts.now in
     let depth = c.args.depth in
     let behind = c.loop-behind.behind in

@@ -5,7 +5,7 @@ use Rattle.line_counts.proofs.Heaviest.{score_low}
 use Rattle.line_counts.proofs.tops.tops.Goals as goal
 
 pub loop-part-preserved : goal.loop-part-preserved
-loop-part-preserved c =
+loop-part-preserved g c =
     let part = c.loop-part.part in
     let counts : List (List ℕ) = c.args.parts.now.counts in
     let depth = c.args.depth in
@@ -16,7 +16,7 @@ loop-part-preserved c =
           omega (
             arith,
             ap (λ (q : ℕ). weighed (get_or counts q []) more depth) same,
-            c.line_sums-sums.ensures.value more within,
+            c.line_sums-sums.ensures.over more within,
             c.raise_to.ensures.raised more,
           ))
           (λ differs.
@@ -30,7 +30,7 @@ loop-part-preserved c =
     }
 
 pub returns-clause-over : goal.returns-clause-over
-returns-clause-over c = λ page stretch of_page few deep has. record {
+returns-clause-over g c = λ page stretch of_page few deep has. record {
   long = c.loop-part.invariant.long;
   over = λ more score k less scored.
       let held = has more k less in

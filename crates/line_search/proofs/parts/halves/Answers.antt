@@ -1,6 +1,7 @@
 use Rattle.std.proofs.Common.{inl, inr, subst}
 use Rattle.line_search.specs.Parts.{IsLong, lower_slopes, upper_slopes, lower_offsets, upper_offsets, lower_depths, upper_depths}
-use Rattle.line_search.proofs.Ranges.{kept_in, offsets_cut, slopes_cut, depths_cut, same_shape}
+use Rattle.line_counts.proofs.Ranges.{kept_in}
+use Rattle.line_search.proofs.Ranges.{offsets_cut, slopes_cut, depths_cut, same_shape}
 use Rattle.line_search.proofs.parts.halves.Goals as goal
 
 pub returns-in-Slopes : goal.returns-in-Slopes
@@ -11,8 +12,8 @@ returns-in-Slopes c =
     let middle = slopes_cut shape grid c.half-middle.result c.half-middle.ensures in
     inl (
       subst (IsLong shape) c.in-Slopes.is c.requires.long,
-      same_shape _ _ _ _ _ _ (lower_slopes shape) kept.0 middle kept.2 kept.3 kept.4 kept.5,
-      same_shape _ _ _ _ _ _ (upper_slopes shape) middle kept.1 kept.2 kept.3 kept.4 kept.5,
+      same_shape _ _ _ _ _ _ (lower_slopes shape) kept.a0 middle kept.b0 kept.b1 kept.c0 kept.c1,
+      same_shape _ _ _ _ _ _ (upper_slopes shape) middle kept.a1 kept.b0 kept.b1 kept.c0 kept.c1,
     )
 
 pub returns-in-Offsets : goal.returns-in-Offsets
@@ -23,8 +24,8 @@ returns-in-Offsets c =
     let middle = offsets_cut shape grid c.half-middle-in-Offsets.result c.half-middle-in-Offsets.ensures in
     inr (inl (
       subst (IsLong shape) c.in-Offsets.is c.requires.long,
-      same_shape _ _ _ _ _ _ (lower_offsets shape) kept.0 kept.1 kept.2 middle kept.4 kept.5,
-      same_shape _ _ _ _ _ _ (upper_offsets shape) kept.0 kept.1 middle kept.3 kept.4 kept.5,
+      same_shape _ _ _ _ _ _ (lower_offsets shape) kept.a0 kept.a1 kept.b0 middle kept.c0 kept.c1,
+      same_shape _ _ _ _ _ _ (upper_offsets shape) kept.a0 kept.a1 middle kept.b1 kept.c0 kept.c1,
     ))
 
 pub returns-in-Depths : goal.returns-in-Depths
@@ -35,6 +36,6 @@ returns-in-Depths c =
     let middle = depths_cut shape grid c.half-middle-in-Depths.result c.half-middle-in-Depths.ensures in
     inr (inr (
       subst (IsLong shape) c.in-Depths.is c.requires.long,
-      same_shape _ _ _ _ _ _ (lower_depths shape) kept.0 kept.1 kept.2 kept.3 kept.4 middle,
-      same_shape _ _ _ _ _ _ (upper_depths shape) kept.0 kept.1 kept.2 kept.3 middle kept.5,
+      same_shape _ _ _ _ _ _ (lower_depths shape) kept.a0 kept.a1 kept.b0 kept.b1 kept.c0 middle,
+      same_shape _ _ _ _ _ _ (upper_depths shape) kept.a0 kept.a1 kept.b0 kept.b1 middle kept.c1,
     ))

@@ -2,7 +2,6 @@ use Rattle.std.proofs.Common.{◌≡◌, ◌+◌, ◌≤◌, ℕ, ℤ, ◌+ℤ�
 use Rattle.std.proofs.lemmas.Int.{ints}
 use Rattle.line_quality.specs.Keys.{line_key}
 use Rattle.line_counts.proofs.Places.{held_slope}
-use Rattle.line_counts.proofs.Heaviest.{score_most}
 use Rattle.line_counts.proofs.Passing.{stretch_over, stretch_empty}
 use Rattle.line_counts.proofs.counts.Counts.rough.Goals as goal
 
@@ -11,8 +10,8 @@ held_first from count height low high page = omega (arith, ints)
 
 pub returns-then-score-least : goal.returns-then-score-least
 returns-then-score-least c =
-    stretch_empty c.args.self.now c.args.stretch.now c.args.least c.most-score.result c.if-score-least.true
-    (score_most c.args.self.now c.args.stretch.now c.parts-parts.result c.most-score.result c.requires.of_page c.requires.few c.parts-parts.ensures.columns c.most-score.ensures)
+    stretch_empty c.args.self.now c.args.stretch.now c.args.least c.most_of-score.result c.if-score-least.true
+    c.most_of-score.ensures.over
 
 pub returns : goal.returns
 returns c =
@@ -26,8 +25,8 @@ returns c =
     omega (
       arith,
       is,
-      stretch_over c.args.self.now stretch c.args.least c.most-score.result top c.parts-parts.ensures.alive c.requires.of_page.low c.min.ensures
-          (score_most c.args.self.now stretch c.parts-parts.result c.most-score.result c.requires.of_page c.requires.few c.parts-parts.ensures.columns c.most-score.ensures)
+      stretch_over c.args.self.now stretch c.args.least c.most_of-score.result top c.most_of-score.ensures.alive c.requires.of_page.low c.min.ensures
+          c.most_of-score.ensures.over
           key
           some,
     )

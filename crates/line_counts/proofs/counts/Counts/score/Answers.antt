@@ -12,7 +12,7 @@ use Rattle.line_counts.proofs.counts.Counts.score.Goals as goal
 pub loop-of_segment-init : goal.loop-of_segment-init
 loop-of_segment-init c = record {
   long = refl;
-  sums = λ in_column. zero_at 17 in_column
+  sums = λ in_column. zero_at 33 in_column
       ∙ sym (column_none c.args.self.now.boxes c.args.self.now.gutters (to_z w8 (of_z w8 c.args.slope)) (to_z w16 (of_z w16 c.args.offset)) c.args.depth in_column c.args.self.now.alive);
 }
 
@@ -24,8 +24,8 @@ overflow_add-sums c =
       arith,
       few,
       c.segment_weight.ensures.small,
-      c.loop-of_segment.invariant.sums c.column.result,
-      column_small page.boxes page.gutters (to_z w8 (of_z w8 c.args.slope)) (to_z w16 (of_z w16 c.args.offset)) c.args.depth c.loop-of_segment.of_segment c.column.result page.alive,
+      c.loop-of_segment.invariant.sums (get_or c.columns-columns.result c.loop-of_segment.of_segment 0),
+      column_small page.boxes page.gutters (to_z w8 (of_z w8 c.args.slope)) (to_z w16 (of_z w16 c.args.offset)) c.args.depth c.loop-of_segment.of_segment (get_or c.columns-columns.result c.loop-of_segment.of_segment 0) page.alive,
     )
 
 pub loop-of_segment-preserved : goal.loop-of_segment-preserved
@@ -36,10 +36,10 @@ loop-of_segment-preserved c =
     let sums : List ℕ = c.loop-of_segment.sums in
     let segment = c.loop-of_segment.of_segment in
     let w = c.segment_weight.result in
-    let d = c.column.result in
+    let d = (get_or c.columns-columns.result c.loop-of_segment.of_segment 0) in
     let same : c.self.inside.gutters ≡ page.gutters = ap (λ (p : LivingPage). p.gutters) c.self.view_is in
-    let column_is : d ≡ column_of_segment slope offset page.gutters segment = c.column.ensures.value ∙ ap (λ (gs : List Rect). column_of_segment slope offset gs segment) same in
-    let within : d < length sums = omega (arith, c.loop-of_segment.invariant.long, c.column.ensures.few, c.self.invariant.countable.few_gutters) in
+    let column_is : d ≡ column_of_segment slope offset page.gutters segment = c.columns-columns.ensures.value segment (omega (arith, c.loop-of_segment-test.true, c.len-of_segment-end.ensures.value, c.self.invariant.countable.few_gutters)) ∙ ap (λ (gs : List Rect). column_of_segment slope offset gs segment) same in
+    let within : d < length sums = omega (arith, c.loop-of_segment.invariant.long, c.columns-columns.ensures.few segment, c.self.invariant.countable.few_gutters) in
     record {
       long = length-set sums d (get_or sums d 0 + w) ∙ c.loop-of_segment.invariant.long;
       sums = sums_next sums d w (λ k. column_weight page.boxes page.gutters slope offset c.args.depth segment k page.alive) (λ k. column_weight page.boxes page.gutters slope offset c.args.depth (segment + 1) k page.alive) within

@@ -5,9 +5,10 @@ use Rattle.line_search.specs.Lines.{deepest}
 use Rattle.line_search.specs.Problem.{GridProblem}
 use Rattle.line_counts.specs.Shapes.{IsInGrid}
 use Rattle.line_search.specs.Bounds.{stretch_of}
-use Rattle.line_search.proofs.Bounding.{wider, bound_of}
+use Rattle.line_search.proofs.Bounding.{bound_of}
 use Rattle.line_search.proofs.Reaching.{kept_reaching}
-use Rattle.line_search.proofs.Ranges.{in_16, nearest_back, nearest_in, kept_in}
+use Rattle.line_counts.proofs.Ranges.{wider, kept_in}
+use Rattle.line_search.proofs.Ranges.{in_16, nearest_back, nearest_in}
 use Rattle.line_search.proofs.grid.Grid.node_of.Goals as goal
 
 pub line_key-requires-clause-slope : goal.line_key-requires-clause-slope
@@ -30,6 +31,6 @@ returns-clause-fitting c =
       in_grid = c.requires.in_grid;
       bounded = bound_of p shape c.requires.in_grid (stretch_of c.args.span p.alive) c.requires.weighing.same near.score.score near.score.column c.line_key.result
           (rw (boxes, gutters, alive) at c.in_ok-near.ensures.most)
-          (c.line_key.ensures.value ∙ rw (slope, offset, (kept_in shape grid).4) refl);
+          (c.line_key.ensures.value ∙ rw (slope, offset, (kept_in shape grid).c0) refl);
       near = kept_reaching p shape c.args.span near.span c.requires.weighing c.in_ok-near.ensures.ordered (rw alive at c.in_ok-near.ensures.inside) (rw (boxes, alive) at c.in_ok-near.ensures.weighing);
     }

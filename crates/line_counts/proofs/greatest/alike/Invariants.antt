@@ -1,0 +1,8 @@
+use Rattle.std.proofs.Common.{◌<◌, ◌≤◌}
+use Rattle.line_counts.proofs.greatest.alike.Given as goal
+
+abbrev pub invariant-loop-gutter : goal.invariant-loop-gutter
+invariant-loop-gutter l = record {
+  some : 0 < l.offsets;
+  few : l.offsets ≤ 64;
+}
