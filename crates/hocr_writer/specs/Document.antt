@@ -1,4 +1,4 @@
--- The document of a layout, line by line: HTML in the manner of hOCR 1.2.
+-- The document of the layouts of an input's pages, line by line: HTML in the manner of hOCR 1.2.
 -- Each line ends with one line feed. A number is decimal, without leading zeros.
 use Rattle.std.specs.Prelude.{ℕ, List, [], ◌∷◌, take, drop, codes, decimal}
 use Rattle.layout_geom.specs.declared.rect.Rect.{Rect}
@@ -91,9 +91,13 @@ area_text layout number area =
     ∷ codes "</div>\n"
     ∷ [])
 
--- What stands in front of the body.
-unfoldable pub head_text : Layout → List ℕ
-head_text layout =
+-- How the lines of a page are ordered, whatever the page's place among the others.
+abbrev pub placed_order : ℕ → Layout → List ℕ
+placed_order place layout = order_line layout
+
+-- What stands in front of the body. It says of each page how its lines are ordered.
+unfoldable pub head_text : List Layout → List ℕ
+head_text layouts =
     joined_pieces
     (codes "<!DOCTYPE html>\n"
     ∷ codes "<html>\n"
@@ -102,7 +106,7 @@ head_text layout =
     ∷ codes "<meta charset='utf-8'>\n"
     ∷ codes "<meta name='ocr-system' content='layout'>\n"
     ∷ codes "<meta name='ocr-capabilities' content='ocr_page ocr_carea ocr_line ocr_separator'>\n"
-    ∷ order_line layout
+    ∷ joined_pieces (numbered_pieces placed_order 0 layouts)
     ∷ codes "</head>\n"
     ∷ [])
 
@@ -117,7 +121,17 @@ page_text layout =
     ∷ codes "</div>\n"
     ∷ [])
 
--- The whole document.
-unfoldable pub document_of : Layout → List ℕ
-document_of layout =
-    joined_pieces (head_text layout ∷ codes "<body>\n" ∷ page_text layout ∷ codes "</body>\n" ∷ codes "</html>\n" ∷ [])
+-- The element of a page, whatever the page's place among the others.
+abbrev pub placed_page : ℕ → Layout → List ℕ
+placed_page place layout = page_text layout
+
+-- The whole document: one head and one body, with the pages in their order.
+unfoldable pub document_of : List Layout → List ℕ
+document_of layouts =
+    joined_pieces
+    (head_text layouts
+    ∷ codes "<body>\n"
+    ∷ joined_pieces (numbered_pieces placed_page 0 layouts)
+    ∷ codes "</body>\n"
+    ∷ codes "</html>\n"
+    ∷ [])

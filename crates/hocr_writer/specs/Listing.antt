@@ -1,6 +1,6 @@
--- The listing of a page's text lines, and the layouts that can be written.
-use Rattle.std.specs.Prelude.{◌≡◌, ℕ, ◌+◌, ◌<◌, List, [], ◌∷◌, length, slice_index, All}
-use Rattle.std.specs.List.{range_with_len}
+-- The listing of a page's text lines, and the layouts that can be written, alone and together.
+use Rattle.std.specs.Prelude.{◌≡◌, ℕ, ◌+◌, ◌<◌, List, [], ◌∷◌, length, slice_index, All, Some}
+use Rattle.std.specs.List.{range_with_len, slice_get}
 use Rattle.layout_geom.specs.declared.area.Area.{Area}
 use Rattle.layout_geom.specs.declared.order.Order.{Order}
 use Rattle.layout_geom.specs.declared.order.Order.TheVariants.{Topological, Cycle}
@@ -48,3 +48,10 @@ pub record IsWholeLayout (layout : Layout) : Type 0 where
   pub order : NamesLines layout.order (length layout.lines)
   pub areas : SplitListing 0 (length layout.lines) layout.areas
   pub marks : All IsMark layout.lines
+
+-- The layouts of the pages of an input, which can be written in one document: there is one at least,
+-- each can be written, and the number of each page is its place.
+pub record AreWholeLayouts (layouts : List Layout) : Type 0 where
+  pub some : layouts ≡ [] → ⊥
+  pub whole : All IsWholeLayout layouts
+  pub numbered : (place : ℕ) (layout : Layout) → slice_get layouts place ≡ Some layout → layout.page ≡ place

@@ -1,17 +1,18 @@
-//! The document of a layout.
-ghost use Rattle.std.specs.Prelude.{◌≡◌, ◌++◌, OnOk, IfOk};
+//! The document of the layouts of an input's pages.
+ghost use Rattle.std.specs.Prelude.{◌≡◌, ◌++◌, ◌∷◌, [], All, OnOk, IfOk};
 ghost use Rattle.hocr_writer.specs.Pieces.{joined_pieces, numbered_pieces};
-ghost use Rattle.hocr_writer.specs.Listing.{IsWholeLayout};
-ghost use Rattle.hocr_writer.specs.Document.{image_text, page_line, white_line, gutter_line, head_text, page_text, document_of};
+ghost use Rattle.hocr_writer.specs.Listing.{IsWholeLayout, AreWholeLayouts};
+ghost use Rattle.hocr_writer.specs.Document.{image_text, page_line, white_line, gutter_line, head_text, page_text, placed_page, document_of};
 
 use crate::areas::put_areas;
 use crate::boxes::put_box_lines;
-use crate::layout::Layout;
-use crate::order::put_order_line;
+use crate::layout::{Layout, Layouts};
+use crate::order::put_order_lines;
 use crate::text::TextBuffer;
 use layout_geom::Name;
 use layout_limits::OutOfMemory;
 use std::alloc::Global;
+use std::slice;
 
 // The name of an image, where there is one.
 #[tactic(auto, using(crate::proofs::Joined::growing), unfolding(crate::specs::Document::image_text))]
@@ -68,8 +69,8 @@ fn put_gutters(text: &mut TextBuffer, layout: &Layout) -> Result<(), OutOfMemory
 
 // What stands in front of the body.
 #[tactic(auto, using(crate::proofs::Joined::growing), unfolding(crate::specs::Document::head_text))]
-fn put_head(text: &mut TextBuffer, layout: &Layout) -> Result<(), OutOfMemory>
-    ensures grown { OnOk result (text.new ≡ text.old ++ head_text layout.now) }
+fn put_head(text: &mut TextBuffer, layouts: &[Layout]) -> Result<(), OutOfMemory>
+    ensures grown { OnOk result (text.new ≡ text.old ++ head_text layouts.now) }
 {
     text.push(b"<!DOCTYPE html>\n")?;
     text.push(b"<html>\n")?;
@@ -80,7 +81,7 @@ fn put_head(text: &mut TextBuffer, layout: &Layout) -> Result<(), OutOfMemory>
     text.push(
         b"<meta name='ocr-capabilities' content='ocr_page ocr_carea ocr_line ocr_separator'>\n",
     )?;
-    put_order_line(text, layout)?;
+    put_order_lines(text, layouts)?;
     text.push(b"</head>\n")?;
     Ok(())
 }
@@ -99,26 +100,48 @@ fn put_page(text: &mut TextBuffer, layout: &Layout) -> Result<(), OutOfMemory>
     Ok(())
 }
 
+// The elements of all pages, in their order.
+fn put_pages(text: &mut TextBuffer, layouts: &[Layout]) -> Result<(), OutOfMemory>
+    requires { All IsWholeLayout layouts.now }
+    ensures grown { OnOk result (text.new ≡ text.old ++ joined_pieces (numbered_pieces placed_page 0 layouts.now)) }
+{
+    for layout in layouts {
+        put_page(text, layout)?;
+    }
+    Ok(())
+}
+
 // The whole document.
 #[tactic(auto, using(crate::proofs::Joined::growing), unfolding(crate::specs::Document::document_of))]
-fn put_document(text: &mut TextBuffer, layout: &Layout) -> Result<(), OutOfMemory>
-    requires { IsWholeLayout layout.now }
-    ensures grown { OnOk result (text.new ≡ text.old ++ document_of layout.now) }
+fn put_document(text: &mut TextBuffer, layouts: &[Layout]) -> Result<(), OutOfMemory>
+    requires { All IsWholeLayout layouts.now }
+    ensures grown { OnOk result (text.new ≡ text.old ++ document_of layouts.now) }
 {
-    put_head(text, layout)?;
+    put_head(text, layouts)?;
     text.push(b"<body>\n")?;
-    put_page(text, layout)?;
+    put_pages(text, layouts)?;
     text.push(b"</body>\n")?;
     text.push(b"</html>\n")?;
     Ok(())
 }
 
-/// The document of a layout, in the manner of hOCR 1.2: an HTML file whose `ocr_page` element has
-/// the name of the page's image, its box, number and count of black pixels in its title. In it stand
-/// the white rectangles, then the gutters, and then the areas in the order of the listing, each with
-/// its half-open `bbox` of pixels. An area holds its lines, each with its `baseline`: the slope, with
-/// three decimals, and how far below the bottom edge of the line's box it begins at the left edge.
-/// Where the line of its descenders lies below the baseline, `x_depth` says by how many rows.
+// The whole document, in a vector of its own.
+fn document_text(alloc: Global, layouts: &[Layout]) -> Result<Vec<u8>, OutOfMemory>
+    requires { All IsWholeLayout layouts.now }
+    ensures written { IfOk result (λ text. text.items ≡ document_of layouts.now) }
+{
+    let mut text = TextBuffer::new(alloc);
+    put_document(&mut text, layouts)?;
+    Ok(text.into_bytes())
+}
+
+/// The document of the layout of an input's one page, in the manner of hOCR 1.2: an HTML file whose
+/// `ocr_page` element has the name of the page's image, its box, number and count of black pixels in
+/// its title. In it stand the white rectangles, then the gutters, and then the areas in the order of
+/// the listing, each with its half-open `bbox` of pixels. An area holds its lines, each with its
+/// `baseline`: the slope, with three decimals, and how far below the bottom edge of the line's box it
+/// begins at the left edge. Where the line of its descenders lies below the baseline, `x_depth` says
+/// by how many rows.
 ///
 /// The text is ASCII where the name of the image is, and each of its lines ends with one line feed.
 ///
@@ -127,9 +150,23 @@ fn put_document(text: &mut TextBuffer, layout: &Layout) -> Result<(), OutOfMemor
 /// Want of memory is the one refusal.
 pub fn hocr_text(alloc: Global, layout: &Layout) -> Result<Vec<u8>, OutOfMemory>
     requires { IsWholeLayout layout.now }
-    ensures written { IfOk result (λ text. text.items ≡ document_of layout.now) }
+    ensures written { IfOk result (λ text. text.items ≡ document_of (layout.now ∷ [])) }
 {
-    let mut text = TextBuffer::new(alloc);
-    put_document(&mut text, layout)?;
-    Ok(text.into_bytes())
+    document_text(alloc, slice::from_ref(layout))
+}
+
+/// The document of the layouts of an input's pages, as `hocr_text` has it for one page: one head,
+/// with one line on the order of the text lines for each page, and one body, with one `ocr_page`
+/// element for each page, all in the order of the pages.
+///
+/// The text is ASCII where the names of the images are, and each of its lines ends with one line feed.
+///
+/// # Errors
+///
+/// Want of memory is the one refusal.
+pub fn pages_text(alloc: Global, layouts: &Layouts) -> Result<Vec<u8>, OutOfMemory>
+    requires { AreWholeLayouts layouts.now }
+    ensures written { IfOk result (λ text. text.items ≡ document_of layouts.now) }
+{
+    document_text(alloc, layouts.as_slice())
 }

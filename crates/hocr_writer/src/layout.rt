@@ -53,3 +53,6 @@ pub struct Layout {
     /// `ocr_carea`, with the `id` `area_` and the page's number, `_` and k. Its lines stand in it.
     pub areas: Areas,
 }
+
+/// The layouts of the pages of an input, in the order of the pages.
+pub type Layouts = Items<Layout>;

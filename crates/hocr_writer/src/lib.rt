@@ -1,4 +1,4 @@
-//! Writes the layout of a page as a document in the manner of hOCR 1.2, and as a summary of its counts.
+//! Writes the layouts of an input's pages as a document in the manner of hOCR 1.2, and a layout as a summary of its counts.
 #![tactic(auto, using(crate::proofs::Joined::growing))]
 
 mod areas;
@@ -13,6 +13,6 @@ mod tests;
 mod text;
 mod whole;
 
-pub use document::hocr_text;
-pub use layout::{Layout, Mark, Marks};
+pub use document::{hocr_text, pages_text};
+pub use layout::{Layout, Layouts, Mark, Marks};
 pub use summary::summary_text;

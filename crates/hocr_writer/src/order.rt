@@ -1,7 +1,7 @@
 //! How the text lines of a page are ordered: in words, and as a line of the document.
 ghost use Rattle.std.specs.Prelude.{◌≡◌, ◌++◌, OnOk};
 ghost use Rattle.hocr_writer.specs.Pieces.{joined_pieces, numbered_pieces};
-ghost use Rattle.hocr_writer.specs.Document.{cycle_number, cycle_text, order_text, order_line};
+ghost use Rattle.hocr_writer.specs.Document.{cycle_number, cycle_text, order_text, order_line, placed_order};
 
 use crate::layout::Layout;
 use crate::text::TextBuffer;
@@ -39,9 +39,9 @@ pub fn put_order(text: &mut TextBuffer, order: &Order) -> Result<(), OutOfMemory
     }
 }
 
-/// How the text lines of the page are ordered, behind the page's number.
+// How the text lines of a page are ordered, behind the page's number.
 #[tactic(auto, using(crate::proofs::Joined::growing), unfolding(crate::specs::Document::order_line))]
-pub fn put_order_line(text: &mut TextBuffer, layout: &Layout) -> Result<(), OutOfMemory>
+fn put_order_line(text: &mut TextBuffer, layout: &Layout) -> Result<(), OutOfMemory>
     ensures grown { OnOk result (text.new ≡ text.old ++ order_line layout.now) }
 {
     text.push(b"<meta name='layout-order' content='")?;
@@ -49,5 +49,15 @@ pub fn put_order_line(text: &mut TextBuffer, layout: &Layout) -> Result<(), OutO
     text.push(b" ")?;
     put_order(text, &layout.order)?;
     text.push(b"'>\n")?;
+    Ok(())
+}
+
+/// How the text lines of each page are ordered, in the order of the pages.
+pub fn put_order_lines(text: &mut TextBuffer, layouts: &[Layout]) -> Result<(), OutOfMemory>
+    ensures grown { OnOk result (text.new ≡ text.old ++ joined_pieces (numbered_pieces placed_order 0 layouts.now)) }
+{
+    for layout in layouts {
+        put_order_line(text, layout)?;
+    }
     Ok(())
 }

@@ -1,5 +1,8 @@
 //! Documents and summaries that were written down by hand from the format, line by line.
-use crate::{Layout, Mark, Marks, hocr_text, summary_text};
+ghost use Rattle.std.specs.Prelude.{IsTrue};
+ghost use Rattle.hocr_writer.specs.Listing.{AreWholeLayouts};
+
+use crate::{Layout, Layouts, Mark, Marks, hocr_text, pages_text, summary_text};
 use layout_geom::{Area, Areas, Name, Numbers, Order, Rect, Rects};
 use std::alloc::Global;
 use std::test::Fail;
@@ -220,6 +223,101 @@ fn documents_are_as_the_format_says(rt: HostRuntime) -> Result<(), Fail> {
         let document = document(rt.alloc(), case)?;
         assert_eq!(rt; text.as_slice(), document.as_bytes(), "{name}");
     }
+    Ok(())
+}
+
+// Whether the layouts can be written in one document.
+fn are_whole(layouts: &Layouts) -> bool
+    ensures { IsTrue result → AreWholeLayouts layouts.now }
+{
+    if layouts.is_empty() {
+        return false;
+    }
+    for (place, layout) in layouts.as_slice().iter().enumerate() {
+        if !layout.is_whole() || layout.page as usize != place {
+            return false;
+        }
+    }
+    true
+}
+
+// The document of layouts that can be written.
+fn text_of(alloc: Global, layouts: &Layouts) -> Result<Vec<u8>, Fail> {
+    if !are_whole(layouts) {
+        return Err("not whole")?;
+    }
+    Ok(pages_text(alloc, layouts)?)
+}
+
+// A blank page of 16 by 16 pixels, by its number.
+fn blank_page(alloc: Global, page: u32) -> Result<Layout, Fail> {
+    Ok(Layout {
+        page,
+        width: 16,
+        height: 16,
+        black: 0,
+        kept: 0,
+        median: 0,
+        image: Name::new(alloc),
+        whites: boxes(alloc, &[[0, 0, 16, 16]])?,
+        gutters: Rects::new(alloc),
+        lines: Marks::new(alloc),
+        order: order(alloc, false, &[])?,
+        areas: Areas::new(alloc),
+    })
+}
+
+#[test]
+fn one_page_twice_has_one_head_and_two_pages(rt: HostRuntime) -> Result<(), Fail> {
+    let alloc = rt.alloc();
+    let mut layouts = Layouts::new(alloc);
+    layouts.push(blank_page(alloc, 0)?)?;
+    layouts.push(blank_page(alloc, 1)?)?;
+    let document = "\
+<!DOCTYPE html>\n<html>\n<head>\n<title>layout</title>\n<meta charset='utf-8'>\n<meta name='ocr-system' content='layout'>\n\
+<meta name='ocr-capabilities' content='ocr_page ocr_carea ocr_line ocr_separator'>\n\
+<meta name='layout-order' content='0 topological'>\n\
+<meta name='layout-order' content='1 topological'>\n\
+</head>\n<body>\n\
+<div class='ocr_page' id='page_0' title='bbox 0 0 16 16; ppageno 0; x_black 0'>\n\
+<div class='ocrx_whitespace' id='white_0_0' title='bbox 0 0 16 16'></div>\n\
+</div>\n\
+<div class='ocr_page' id='page_1' title='bbox 0 0 16 16; ppageno 1; x_black 0'>\n\
+<div class='ocrx_whitespace' id='white_1_0' title='bbox 0 0 16 16'></div>\n\
+</div>\n\
+</body>\n</html>\n";
+    let text = text_of(alloc, &layouts)?;
+    assert_eq!(rt; text.as_slice(), document.as_bytes());
+    Ok(())
+}
+
+// The first page has a cycle of its lines, and the second has one line.
+#[test]
+fn each_page_has_its_own_order_and_its_own_elements(rt: HostRuntime) -> Result<(), Fail> {
+    let alloc = rt.alloc();
+    let mut layouts = Layouts::new(alloc);
+    layouts.push(layout_of_case(alloc, &CYCLE)?)?;
+    let mut second = layout_of_case(alloc, &LETTERS_WITH_TAILS)?;
+    second.page = 1;
+    layouts.push(second)?;
+    let case = &CYCLE;
+    let first = case.element;
+    let document = format!(in alloc;
+        "\
+<!DOCTYPE html>\n<html>\n<head>\n<title>layout</title>\n<meta charset='utf-8'>\n<meta name='ocr-system' content='layout'>\n\
+<meta name='ocr-capabilities' content='ocr_page ocr_carea ocr_line ocr_separator'>\n\
+<meta name='layout-order' content='0 cycle 2 0'>\n\
+<meta name='layout-order' content='1 topological'>\n\
+</head>\n<body>\n{first}\
+<div class='ocr_page' id='page_1' title='bbox 0 0 110 60; ppageno 1; x_black 1080'>\n\
+<div class='ocr_carea' id='area_1_0' title='bbox 10 10 100 34'>\n\
+<span class='ocr_line' id='line_1_0' title='bbox 10 10 100 34; baseline 0.000 -4; x_depth 4'></span>\n\
+</div>\n\
+</div>\n\
+</body>\n</html>\n"
+    )?;
+    let text = text_of(alloc, &layouts)?;
+    assert_eq!(rt; text.as_slice(), document.as_bytes());
     Ok(())
 }
 
