@@ -1,25 +1,27 @@
 -- A run that ends for a refusal with its cause, or with its output written, is a run as both programs promise it.
-use Rattle.std.proofs.Common.{◌≡◌, ◌⊎◌, ℕ, List, None, Some, Ok, Err, refl, ap, sym, ◌∙◌, subst, inl, inr, arith}
-use Rattle.std.specs.Prelude.{IfSome, IfOk, IfErr, Result}
+use Rattle.std.proofs.Common.{◌≡◌, ◌⊎◌, ℕ, List, Option, None, Some, Ok, Err, refl, ap, sym, ◌∙◌, subst, inl, inr, arith}
+use Rattle.std.specs.Prelude.{All, IfSome, IfOk, IfErr, Result}
 use Rattle.layout_outside.specs.Causes.{Rose}
 use Rattle.layout_outside.specs.Views.{SourceView}
 use Rattle.layout_outside.specs.Written.{Appended, AppendedPart}
 use Rattle.pbm_reader.specs.declared.fault.PageFault.{PageFault}
 use Rattle.pbm_reader.specs.declared.fault.PageFault.TheVariants as faults
 use Rattle.pbm_reader.specs.Page.{Page}
-use Rattle.pbm_reader.specs.Spelling.{Spells}
-use Rattle.pbm_reader.specs.Fault.{HasFault}
-use Rattle.pbm_reader.specs.Reading.{Refuses}
+use Rattle.pbm_reader.specs.Images.{SpellsPages}
 use Rattle.command_words.specs.declared.plan.Plan.{Plan}
 use Rattle.command_words.specs.Plans.{HasPlan, HasNoPlan}
 use Rattle.layout_core.specs.declared.refusal.Refusal.{Refusal}
 use Rattle.layout_core.specs.declared.refusal.Refusal.TheVariants as refusals
-use Rattle.layout_core.specs.Layouts.{HasFewComponents, HasTooMany}
+use Rattle.layout_core.specs.Layouts.{HasFewComponents}
 use Rattle.layout_core.specs.RefusalLines.{refusal_line}
-use Rattle.layout_core.specs.Run.{RunAccount, IsPlanned, IsReading, IsMaking, ReadsTooMany, ReadsDocument, IsSummaryOf, IsOutput, WritesOutput, WritesFront}
-use Rattle.layout_core.specs.Status.{fault_status, status_of, Says, RefusesPage, RefusesComponents, RefusesLayout, FailsToRead, FailsToWrite, EndsWith, EndsWritten, IsStatus, IsWantOfMemory, ToldWhole, AnswersPage, Finishes, IsRun}
+use Rattle.layout_core.specs.Run.{RunAccount, IsPlanned, IsReading, IsMaking, ReadsDocument, IsSummaryOf, IsOutput, WritesOutput, WritesFront}
+use Rattle.layout_core.specs.Owed.{Owes, IsOwed}
+use Rattle.layout_core.specs.Status.{fault_status, status_of, Says, OwesTooMany, RefusesPage, RefusesComponents, RefusesLayouts, FailsToRead, FailsToWrite, EndsWith, EndsWritten, IsStatus, IsWantOfMemory, ToldWhole, AnswersPages, Finishes, IsRun}
 use Rattle.layout_core.specs.Words.{RefusesWords}
 use Rattle.layout_core.proofs.Planning.{OnePlan, not_making, not_reading}
+use Rattle.layout_core.proofs.Components.{whole_is}
+use Rattle.layout_core.proofs.Owing.{InputLaws, one_owed, none_owed}
+use Rattle.layout_core.proofs.Pages.{few_pages}
 
 -- the status of a page that was not read is 3, 4, 5 or 7
 abbrev IsFaultStatus : ℕ → Type 0
@@ -40,14 +42,47 @@ is_fault_status status from (inr (inl s)) is = inr (inr (inr (inl (is ∙ s))))
 is_fault_status status from (inr (inr (inl s))) is = inr (inr (inr (inr (inl (is ∙ s)))))
 is_fault_status status from (inr (inr (inr s))) is = inr (inr (inr (inr (inr (inr (is ∙ s))))))
 
--- a fault that is no failed read and no want of memory is the input's
-has_of : (before after : SourceView) (fault : PageFault) → (fault_status fault ≡ 3) ⊎ (fault_status fault ≡ 4) → Refuses before after fault
-    → IfSome before.left (λ input. HasFault input fault)
-has_of before after faults.ReadFault (inl s) r = absurd (omega (arith, s))
-has_of before after faults.ReadFault (inr s) r = absurd (omega (arith, s))
-has_of before after faults.Memory (inl s) r = absurd (omega (arith, s))
-has_of before after faults.Memory (inr s) r = absurd (omega (arith, s))
-has_of before after fault s r = r
+-- a fault that is no failed read and no want of memory is owed to the input
+fault_of : (before after : SourceView) (fault : PageFault) → (fault_status fault ≡ 3) ⊎ (fault_status fault ≡ 4) → RefusesLayouts before after (refusals.Page fault)
+    → IfSome before.left (λ input. Owes input (refusals.Page fault))
+fault_of before after faults.ReadFault (inl s) r = absurd (omega (arith, s))
+fault_of before after faults.ReadFault (inr s) r = absurd (omega (arith, s))
+fault_of before after faults.Memory (inl s) r = absurd (omega (arith, s))
+fault_of before after faults.Memory (inr s) r = absurd (omega (arith, s))
+fault_of before after fault s r = r
+
+-- ---- the refusal that is owed
+
+told_input : (left : Option (List ℕ)) (input : List ℕ) (P : List ℕ → Type 0) → left ≡ Some input → IfSome left P → P input
+told_input left input P told p = let Q : Option (List ℕ) → Type 0 = λ o. IfSome o P in subst Q told p
+
+-- a told input's refusal is answered, where no read of it failed
+refusal_answered : InputLaws → (before after : SourceView) (input : List ℕ) (wanted refusal : Refusal) → ToldWhole before after input → Owes input wanted → RefusesLayouts before after refusal
+    → (refusal ≡ refusals.Page faults.ReadFault → Rose before.faults after.faults) → (refusal ≡ wanted) ⊎ IsWantOfMemory refusal
+refusal_answered laws before after input wanted (refusals.Page faults.ReadFault) told owes why rose = absurd (told.1 (rose refl))
+refusal_answered laws before after input wanted (refusals.Page faults.Memory) told owes why rose = inr (inr refl)
+refusal_answered laws before after input wanted (refusals.Page fault) told owes why rose =
+    inl (one_owed laws input (refusals.Page fault) wanted (told_input before.left input (λ l. Owes l (refusals.Page fault)) told.0 why) owes)
+refusal_answered laws before after input wanted (refusals.TooMany count) told owes why rose =
+    let same : input ≡ why.input = told_input before.left input (λ l. l ≡ why.input) told.0 why.is_left in
+    inl (one_owed laws input (refusals.TooMany count) wanted (subst (λ (l : List ℕ). Owes l (refusals.TooMany count)) (sym same) why.owes) owes)
+refusal_answered laws before after input wanted refusals.Memory told owes why rose = inr (inl refl)
+refusal_answered laws before after input wanted (refusals.Usage program) told owes why rose = absurd why
+refusal_answered laws before after input wanted refusals.WriteFault told owes why rose = absurd why
+
+-- pages of few components are refused for want of memory alone
+few_answered : InputLaws → (before after : SourceView) (input : List ℕ) (pages : List Page) (refusal : Refusal) → ToldWhole before after input → SpellsPages input pages → All HasFewComponents pages
+    → RefusesLayouts before after refusal → (refusal ≡ refusals.Page faults.ReadFault → Rose before.faults after.faults) → IsWantOfMemory refusal
+few_answered laws before after input pages (refusals.Page faults.ReadFault) told spells few why rose = absurd (told.1 (rose refl))
+few_answered laws before after input pages (refusals.Page faults.Memory) told spells few why rose = inr refl
+few_answered laws before after input pages (refusals.Page fault) told spells few why rose =
+    absurd (none_owed laws input pages (refusals.Page fault) spells few (told_input before.left input (λ l. Owes l (refusals.Page fault)) told.0 why))
+few_answered laws before after input pages (refusals.TooMany count) told spells few why rose =
+    let same : input ≡ why.input = told_input before.left input (λ l. l ≡ why.input) told.0 why.is_left in
+    absurd (none_owed laws input pages (refusals.TooMany count) spells few (subst (λ (l : List ℕ). Owes l (refusals.TooMany count)) (sym same) why.owes))
+few_answered laws before after input pages refusals.Memory told spells few why rose = inl refl
+few_answered laws before after input pages (refusals.Usage program) told spells few why rose = absurd why
+few_answered laws before after input pages refusals.WriteFault told spells few why rose = absurd why
 
 module _ (SourceStays OutStays ErrStays : Type 0) (run : RunAccount) where
   -- ---- what a refusal tells
@@ -55,9 +90,9 @@ module _ (SourceStays OutStays ErrStays : Type 0) (run : RunAccount) where
   -- why the run ended for this refusal, and what it left alone
   abbrev IsCaused : Refusal → Type 0
   IsCaused (refusals.Usage program) = (program ≡ run.program) × HasNoPlan run.program run.words × SourceStays × OutStays
-  IsCaused (refusals.Page fault) = IsReading run.program run.words × Refuses run.source_before run.source_after fault
+  IsCaused (refusals.Page fault) = IsReading run.program run.words × RefusesLayouts run.source_before run.source_after (refusals.Page fault)
       × (fault ≡ faults.ReadFault → Rose run.source_before.faults run.source_after.faults) × OutStays
-  IsCaused (refusals.TooMany count) = IsReading run.program run.words × ReadsTooMany run.source_before run.source_after count × OutStays
+  IsCaused (refusals.TooMany count) = IsReading run.program run.words × OwesTooMany run.source_before count × OutStays
   IsCaused refusals.WriteFault = IsPlanned run.program run.words × Rose run.out_before.faults run.out_after.faults × WritesFront run
   IsCaused refusals.Memory = OutStays
 
@@ -79,19 +114,18 @@ module _ (SourceStays OutStays ErrStays : Type 0) (run : RunAccount) where
 
   bad_page : (refusal : Refusal) → IsCaused refusal → Says run refusal → status_of refusal ≡ 3 → IsReading run.program run.words × RefusesPage 3 run
   bad_page (refusals.Page fault) why line s =
-      (why.0, record { fault = fault; status_is = s; has = has_of run.source_before run.source_after fault (inl s) why.1; line = line })
+      (why.0, record { fault = fault; status_is = s; owes = fault_of run.source_before run.source_after fault (inl s) why.1; line = line })
   bad_page refusal why line s = absurd (omega (arith, s))
 
   limited : (refusal : Refusal) → IsCaused refusal → Says run refusal → status_of refusal ≡ 4 → IsReading run.program run.words × (RefusesPage 4 run ⊎ RefusesComponents run)
   limited (refusals.Page fault) why line s =
-      (why.0, inl (record { fault = fault; status_is = s; has = has_of run.source_before run.source_after fault (inr s) why.1; line = line }))
+      (why.0, inl (record { fault = fault; status_is = s; owes = fault_of run.source_before run.source_after fault (inr s) why.1; line = line }))
   limited (refusals.TooMany count) why line s = (why.0, inr (record { count = count; too_many = why.1; line = line }))
   limited refusal why line s = absurd (omega (arith, s))
 
   read_fault : (refusal : Refusal) → IsCaused refusal → Says run refusal → status_of refusal ≡ 5 → IsReading run.program run.words × FailsToRead run
   read_fault (refusals.Page faults.ReadFault) why line s =
-      let r = why.1 in
-      (why.0, record { failed = why.2 refl; taken = r.0; took = r.1; undecided = r.2; line = line })
+      (why.0, record { failed = why.2 refl; stops = why.1; line = line })
   read_fault (refusals.Page fault) why line s = absurd (omega (arith, s))
   read_fault refusal why line s = absurd (omega (arith, s))
 
@@ -124,18 +158,22 @@ module _ (SourceStays OutStays ErrStays : Type 0) (run : RunAccount) where
   -- ---- what a run owes
 
   -- when each status has to come
-  record IsOwed : Type 0 where
+  record EndsAsOwed : Type 0 where
     planless : HasNoPlan run.program run.words → EndsWith run 2
-    faulty : IsReading run.program run.words → (input : List ℕ) (fault : PageFault)
-        → ToldWhole run.source_before run.source_after input → HasFault input fault → EndsWith run (fault_status fault)
-    limit : IsReading run.program run.words → (input : List ℕ) (page : Page) (count : ℕ)
-        → ToldWhole run.source_before run.source_after input → Spells input page → HasTooMany page count → EndsWith run 4
-    complete : IsReading run.program run.words → (input : List ℕ) (page : Page)
-        → ToldWhole run.source_before run.source_after input → Spells input page → HasFewComponents page → EndsWritten run
+    owed : (input : List ℕ) (refusal : Refusal) → ToldWhole run.source_before run.source_after input → IsOwed run.program run.words input refusal
+        → EndsWith run (status_of refusal)
+    complete : IsReading run.program run.words → (input : List ℕ) (pages : List Page)
+        → ToldWhole run.source_before run.source_after input → SpellsPages input pages → All HasFewComponents pages → EndsWritten run
     unread : IsMaking run.program run.words → SourceStays
     made : IsMaking run.program run.words → EndsWritten run
 
-  ends_refused : (refusal : Refusal) → run.status ≡ status_of refusal → IsCaused refusal → Says run refusal → IsOwed → IsRun SourceStays OutStays ErrStays run
+  -- of words with a plan a refusal of the input is owed
+  owed_input : (HasNoPlan run.program run.words → ⊥) → (input : List ℕ) (refusal : Refusal) → IsOwed run.program run.words input refusal
+      → IsReading run.program run.words × Owes input refusal
+  owed_input planned input (refusals.Usage program) owed = absurd (planned owed.1)
+  owed_input planned input refusal owed = owed
+
+  ends_refused : (refusal : Refusal) → run.status ≡ status_of refusal → IsCaused refusal → Says run refusal → EndsAsOwed → IsRun SourceStays OutStays ErrStays run
   ends_refused refusal is why line owed =
       record {
         statuses = is_status refusal is;
@@ -150,14 +188,13 @@ module _ (SourceStays OutStays ErrStays : Type 0) (run : RunAccount) where
         unwritten = λ not_done not_failed. unwritten refusal why (λ s. not_failed (is ∙ s));
         planless = owed.planless;
         planned = λ not_two not_seven. planned refusal why (λ s. not_two (is ∙ s)) (λ s. not_seven (is ∙ s));
-        faulty = owed.faulty;
-        limit = owed.limit;
+        owed = owed.owed;
         complete = owed.complete;
         unread = owed.unread;
         made = owed.made;
       }
 
-  ends_done : run.status ≡ 0 → IsPlanned run.program run.words → WritesOutput run → ErrStays → IsOwed → IsRun SourceStays OutStays ErrStays run
+  ends_done : run.status ≡ 0 → IsPlanned run.program run.words → WritesOutput run → ErrStays → EndsAsOwed → IsRun SourceStays OutStays ErrStays run
   ends_done is told writes err owed =
       record {
         statuses = inl is;
@@ -172,36 +209,37 @@ module _ (SourceStays OutStays ErrStays : Type 0) (run : RunAccount) where
         unwritten = λ not_done not_failed. absurd (not_done is);
         planless = owed.planless;
         planned = λ not_two not_seven. told;
-        faulty = owed.faulty;
-        limit = owed.limit;
+        owed = owed.owed;
         complete = owed.complete;
         unread = owed.unread;
         made = owed.made;
       }
 
   -- want of memory owes nothing more
-  owed_memory : run.status ≡ 7 → (IsMaking run.program run.words → SourceStays) → IsOwed
+  owed_memory : run.status ≡ 7 → (IsMaking run.program run.words → SourceStays) → EndsAsOwed
   owed_memory is source =
       record {
         planless = λ none. inr is;
-        faulty = λ told input fault whole has. inr is;
-        limit = λ told input page count whole spells many. inr is;
-        complete = λ told input page whole spells few. inr (inr is);
+        owed = λ input refusal told owed. inr is;
+        complete = λ told input pages whole spells few. inr (inr is);
         unread = source;
         made = λ told. inr (inr is);
       }
 
-  -- words without a plan
-  owed_usage : run.status ≡ 2 → HasNoPlan run.program run.words → IsOwed
+  -- to words without a plan nothing but their own refusal is owed
+  owed_usage : run.status ≡ 2 → HasNoPlan run.program run.words → EndsAsOwed
   owed_usage is none =
       record {
         planless = λ again. inl is;
-        faulty = λ told. absurd (none told.0 told.1);
-        limit = λ told. absurd (none told.0 told.1);
+        owed = λ input refusal told owed. usage_owed input refusal owed;
         complete = λ told. absurd (none told.0 told.1);
         unread = λ told. absurd (none told.0 told.2);
         made = λ told. absurd (none told.0 told.2);
       }
+    where
+      usage_owed : (input : List ℕ) (refusal : Refusal) → IsOwed run.program run.words input refusal → EndsWith run (status_of refusal)
+      usage_owed input (refusals.Usage program) owed = inl is
+      usage_owed input refusal owed = let told = owed.0 in absurd (none told.0 told.1)
 
   -- words without a plan, or want of memory before a plan was made
   pub ends_unplanned : (refusal : Refusal) → RefusesWords run.program run.words refusal → run.status ≡ status_of refusal → Says run refusal → SourceStays → OutStays
@@ -227,9 +265,9 @@ module _ (SourceStays OutStays ErrStays : Type 0) (run : RunAccount) where
   wanting refusal is (inl want) = is ∙ ap status_of want
   wanting refusal is (inr want) = is ∙ ap status_of want
 
-  -- the run read a page, and refused it
-  module _ (one : OnePlan) (plan : Plan) (has : HasPlan run.program run.words plan) (none : plan.make ≡ None) where
-    caused : (refusal : Refusal) → RefusesLayout run.source_before run.source_after refusal
+  -- the run read pages, and refused them
+  module _ (laws : InputLaws) (one : OnePlan) (plan : Plan) (has : HasPlan run.program run.words plan) (none : plan.make ≡ None) where
+    caused : (refusal : Refusal) → RefusesLayouts run.source_before run.source_after refusal
         → (refusal ≡ refusals.Page faults.ReadFault → Rose run.source_before.faults run.source_after.faults) → OutStays → IsCaused refusal
     caused (refusals.Usage program) why rose out = absurd why
     caused (refusals.Page fault) why rose out = ((plan, has, none), why, (λ same. rose (ap (λ f. refusals.Page f) same)), out)
@@ -237,35 +275,38 @@ module _ (SourceStays OutStays ErrStays : Type 0) (run : RunAccount) where
     caused refusals.WriteFault why rose out = absurd why
     caused refusals.Memory why rose out = out
 
-    page_refused : {T : Type 0} → (refusal : Refusal) (IsWanted : T → Type 0) → AnswersPage run.source_before run.source_after (let r : Result T Refusal = Err refusal in r) IsWanted
+    pages_refused : {T : Type 0} → (refusal : Refusal) (IsWanted : T → Type 0) → AnswersPages run.source_before run.source_after (let r : Result T Refusal = Err refusal in r) IsWanted
         → run.status ≡ status_of refusal → OutStays → Says run refusal → IsRun SourceStays OutStays ErrStays run
-    page_refused refusal IsWanted page is out line =
-        ends_refused refusal is (caused refusal page.refused (λ same. page.cause.failed (ap (λ r. Err r) same)) out) line
+    pages_refused refusal IsWanted answer is out line =
+        let rose : refusal ≡ refusals.Page faults.ReadFault → Rose run.source_before.faults run.source_after.faults = λ same. answer.cause.failed (ap (λ r. Err r) same) in
+        ends_refused refusal is (caused refusal answer.refused rose out) line
         (record {
           planless = λ without. absurd (without plan has);
-          faulty = λ told input fault whole found. answered (refusals.Page fault) refusal is (page.faulty input fault whole found).1;
-          limit = λ told input p count whole spells many. answered (refusals.TooMany count) refusal is (page.limit input p count whole spells many).1;
-          complete = λ told input p whole spells few. inr (inr (wanting refusal is (page.complete input p whole spells few)));
+          owed = λ input wanted told owed.
+              answered wanted refusal is
+              (refusal_answered laws run.source_before run.source_after input wanted refusal told (owed_input (λ without. without plan has) input wanted owed).1 answer.refused rose);
+          complete = λ reading input pages told spells few.
+              inr (inr (wanting refusal is (few_answered laws run.source_before run.source_after input pages refusal told spells few answer.refused rose)));
           unread = λ told. absurd (not_making one run.program run.words plan has none told);
           made = λ told. absurd (not_making one run.program run.words plan has none told);
         })
 
   -- what is owed of an output that was answered
   owed_output : IsPlanned run.program run.words → EndsWritten run → (IsMaking run.program run.words → SourceStays)
-      → (IsReading run.program run.words → (input : List ℕ) (fault : PageFault) → ToldWhole run.source_before run.source_after input → HasFault input fault → ⊥)
-      → (IsReading run.program run.words → (input : List ℕ) (page : Page) (count : ℕ) → ToldWhole run.source_before run.source_after input → Spells input page → HasTooMany page count → ⊥)
-      → IsOwed
-  owed_output told written source faultless few =
+      → (IsReading run.program run.words → (input : List ℕ) (refusal : Refusal) → ToldWhole run.source_before run.source_after input → Owes input refusal → ⊥)
+      → EndsAsOwed
+  owed_output told written source nothing =
       record {
         planless = λ without. absurd (without told.0 told.1);
-        faulty = λ reading input fault whole found. absurd (faultless reading input fault whole found);
-        limit = λ reading input page count whole spells many. absurd (few reading input page count whole spells many);
-        complete = λ reading input page whole spells few. written;
+        owed = λ input refusal whole owed.
+            let wanted = owed_input (λ without. without told.0 told.1) input refusal owed in
+            absurd (nothing wanted.0 input refusal whole wanted.1);
+        complete = λ reading input pages whole spells few. written;
         unread = source;
         made = λ making. written;
       }
 
-  finished : (text : List ℕ) → IsPlanned run.program run.words → IsOutput run text → (EndsWritten run → IsOwed)
+  finished : (text : List ℕ) → IsPlanned run.program run.words → IsOutput run text → (EndsWritten run → EndsAsOwed)
       → (run.status ≡ 0) ⊎ (run.status ≡ 6)
       → (run.status ≡ 0 → ErrStays × Appended run.out_before run.out_after text)
       → (run.status ≡ 6 → Rose run.out_before.faults run.out_after.faults × AppendedPart run.out_before run.out_after text × Says run refusals.WriteFault)
@@ -276,20 +317,22 @@ module _ (SourceStays OutStays ErrStays : Type 0) (run : RunAccount) where
       let f = failed is in
       ends_refused refusals.WriteFault is (told, f.0, record { text = text; is_output = output; part = f.1 }) f.2 (owed (inr (inl (is, f.0))))
 
-  -- a page was read, and its document was written, or a refusal's line
-  pub document_ends : {T : Type 0} → OnePlan → (plan : Plan) → HasPlan run.program run.words plan → plan.make ≡ None → (text : Result T Refusal) → (bytes_of : T → List ℕ)
-      → AnswersPage run.source_before run.source_after text (λ text. ReadsDocument plan run.source_before run.source_after (bytes_of text))
+  -- pages were read, and their document was written, or a refusal's line
+  pub document_ends : {T : Type 0} → InputLaws → OnePlan → (plan : Plan) → HasPlan run.program run.words plan → plan.make ≡ None → (text : Result T Refusal) → (bytes_of : T → List ℕ)
+      → AnswersPages run.source_before run.source_after text (λ text. ReadsDocument plan run.source_before run.source_after (bytes_of text))
       → Finishes ErrStays OutStays run.out_before run.out_after run.err_before run.err_after text bytes_of run.status → IsRun SourceStays OutStays ErrStays run
-  document_ends one plan has none (Ok text) bytes_of page finishes =
-      finished (bytes_of text) (plan, has) (inl (record { plan = plan; planned = has; reading = none; document = page.wanted }))
+  document_ends laws one plan has none (Ok text) bytes_of answer finishes =
+      let read = answer.wanted.read in
+      finished (bytes_of text) (plan, has) (inl (record { plan = plan; planned = has; reading = none; document = answer.wanted }))
       (λ written.
       owed_output (plan, has) written (λ told. absurd (not_making one run.program run.words plan has none told))
-      (λ told input fault whole found. absurd (cc (page.faulty input fault whole found).0))
-      (λ told input p count whole spells many. absurd (cc (page.limit input p count whole spells many).0)))
+      (λ reading input refusal told owes.
+      none_owed laws input read.pages refusal (whole_is run.source_before run.source_after input read.pages told.0 read.reads)
+      (few_pages 0 plan read.pages answer.wanted.layouts read.are_layouts) owes))
       finishes.ends finishes.done finishes.failed
-  document_ends one plan has none (Err refusal) bytes_of page finishes =
+  document_ends laws one plan has none (Err refusal) bytes_of answer finishes =
       let f = finishes.refused in
-      page_refused one plan has none refusal (λ text. ReadsDocument plan run.source_before run.source_after (bytes_of text)) page f.0 f.1 f.2
+      pages_refused laws one plan has none refusal (λ text. ReadsDocument plan run.source_before run.source_after (bytes_of text)) answer f.0 f.1 f.2
 
   -- a page was made, and its summary was written, or the line of want of memory
   pub summary_ends : {T : Type 0} → OnePlan → (plan : Plan) → HasPlan run.program run.words plan → (seed : ℕ) → plan.make ≡ Some seed → (text : Result T Refusal) → (bytes_of : T → List ℕ)
@@ -299,8 +342,7 @@ module _ (SourceStays OutStays ErrStays : Type 0) (run : RunAccount) where
       finished (bytes_of text) (plan, has) (inr (record { plan = plan; planned = has; seed = seed; making = some; summary = summary }))
       (λ written.
       owed_output (plan, has) written (λ told. source)
-      (λ told. absurd (not_reading one run.program run.words plan seed has some told))
-      (λ told. absurd (not_reading one run.program run.words plan seed has some told)))
+      (λ reading input refusal told owes. absurd (not_reading one run.program run.words plan seed has some reading)))
       finishes.ends finishes.done finishes.failed
   summary_ends one plan has seed some (Err refusal) bytes_of summary want source finishes =
       let f = finishes.refused in

@@ -1,5 +1,8 @@
 pub mod Endings
 pub mod Components
+pub mod Fronts
+pub mod Owing
+pub mod Pages
 pub mod Rising
 pub mod Inside
 pub mod Wholes

@@ -1,12 +1,17 @@
--- A page has one layout, and a run one output.
-use Rattle.std.proofs.Common.{◌≡◌, ◌∙◌, ℕ, ◌+◌, ◌≤◌, max, List, length, map, Option, None, Some, sym, ap, subst, arith, inl, inr}
+-- A page has one layout, the pages of an input have one list of layouts, and a run one output.
+use Rattle.std.proofs.Common.{◌≡◌, ◌∙◌, ℕ, ◌+◌, ◌≤◌, max, List, [], ◌∷◌, length, map, Option, None, Some, refl, sym, ap, subst, arith, inl, inr}
+use Rattle.std.specs.Prelude.{All}
+use Rattle.std.specs.List.{AllZip}
+use Rattle.std.proofs.lemmas.List.Elements.{All-nil, All-cons, All-head, All-tail}
 use Rattle.std.specs.Ordering.{is_lt}
 use Rattle.std.specs.Cmp.{IsStrictWeakOrder, then_total, on_total}
 use Rattle.std.proofs.lemmas.Cmp.{nat_cmp_total}
 use Rattle.std.proofs.lemmas.List.MinMax.{ranks_by}
 use Rattle.std.specs.Io.KnownBytes.{append_known}
+use Rattle.packed_rows.specs.Page.{HasPicture}
 use Rattle.pbm_reader.specs.Page.{Page}
 use Rattle.pbm_reader.specs.Spelling.{Spells}
+use Rattle.pbm_reader.specs.Images.{AreImages, SpellsPages}
 use Rattle.layout_geom.specs.declared.rect.Rect.{Rect}
 use Rattle.layout_geom.specs.declared.area.Area.{Area}
 use Rattle.layout_geom.specs.declared.order.Order.{Order}
@@ -30,11 +35,11 @@ use Rattle.command_words.specs.declared.plan.Plan.{Plan}
 use Rattle.command_words.specs.Plans.{HasPlan}
 use Rattle.layout_core.specs.declared.page_layout.TheConstants.{LEAST_SIZE}
 use Rattle.layout_core.specs.Numbering.{mark_of, box_of, compare_lines, IsNumbered}
-use Rattle.layout_core.specs.Layouts.{IsLayout}
+use Rattle.layout_core.specs.Layouts.{IsLayout, IsLayoutAs, AreLayouts, AreLayoutsFrom}
 use Rattle.layout_core.specs.Run.{RunAccount, ReadsWhole, IsDocument, IsSummary, IsOutput, WritesOutput}
 use Rattle.layout_core.specs.Unique.{AskTheSame, LayoutIsUnique}
 use Rattle.layout_core.proofs.Stable.{one_stable_sort, one_rising}
-use Rattle.layout_core.proofs.Components.{SpellsOne, whole_is}
+use Rattle.layout_core.proofs.Components.{whole_is}
 use Rattle.layout_core.proofs.Planning.{OnePlan}
 
 -- ---- the parts of a layout
@@ -107,9 +112,10 @@ layout_with : ℕ → ℕ → ℕ → ℕ → ℕ → ℕ → List ℕ → List 
 layout_with page width height black kept median image whites gutters lines order areas =
     record { page = page; width = width; height = height; black = black; kept = kept; median = median; image = image; whites = whites; gutters = gutters; lines = lines; order = order; areas = areas }
 
-pub one_layout : Laws → LayoutIsUnique
+-- a page has one layout of a number
+one_numbered : Laws → (number : ℕ) (p q : Plan) → AskTheSame p q → (page : Page) (l m : Layout) → IsLayoutAs number p page l → IsLayoutAs number q page m → l ≡ m
 unfolding layout_with
-one_layout laws p q same page l m is is_too =
+one_numbered laws number p q same page l m is is_too =
     let boxes : is.kept.boxes ≡ is_too.kept.boxes = (laws.kept page).one_list is.kept.boxes is_too.kept.boxes is.is_kept.boxes is_too.is_kept.boxes in
     let medians : is.kept.median ≡ is_too.kept.median = one_median (map height_of is.kept.boxes) (map height_of is_too.kept.boxes) is.kept.median is_too.kept.median (ap (map height_of) boxes) is.is_kept.median is_too.is_kept.median in
     let kepts : is.kept ≡ is_too.kept = same_kept is.kept is_too.kept boxes medians in
@@ -129,6 +135,60 @@ one_layout laws p q same page l m is is_too =
     let images : l.image ≡ m.image = is.image_is ∙ same.image ∙ sym is_too.image_is in
     let both : layout_with l.page l.width l.height l.black l.kept l.median l.image l.whites l.gutters l.lines l.order l.areas ≡ layout_with m.page m.width m.height m.black m.kept m.median m.image m.whites m.gutters m.lines m.order m.areas = cc in
     both
+
+pub one_layout : Laws → LayoutIsUnique
+one_layout laws p q same page l m is is_too = one_numbered laws 0 p q same page l m is is_too
+
+-- the pages of an input have one list of layouts
+one_list_of_layouts : Laws → (number : ℕ) (p q : Plan) → AskTheSame p q → (pages : List Page) (ls ms : List Layout) → AreLayoutsFrom number p pages ls → AreLayoutsFrom number q pages ms → ls ≡ ms
+one_list_of_layouts laws number p q same [] [] [] are are_too = refl
+one_list_of_layouts laws number p q same [] [] (m ∷ ms) are are_too = absurd are_too
+one_list_of_layouts laws number p q same [] (l ∷ ls) ms are are_too = absurd are
+one_list_of_layouts laws number p q same (page ∷ pages) [] ms are are_too = absurd are
+one_list_of_layouts laws number p q same (page ∷ pages) (l ∷ ls) [] are are_too = absurd are_too
+one_list_of_layouts laws number p q same (page ∷ pages) (l ∷ ls) (m ∷ ms) are are_too =
+    both l m ls ms (one_numbered laws number p q same page l m are.0 are_too.0) (one_list_of_layouts laws (number + 1) p q same pages ls ms are.1 are_too.1)
+  where
+    both : (l m : Layout) (ls ms : List Layout) → l ≡ m → ls ≡ ms → l ∷ ls ≡ m ∷ ms
+    both l m ls ms e f = cc
+
+-- ---- equal pictures
+
+-- two inputs that spell one picture spell one page
+abbrev pub PictureIsPage : Type 0
+PictureIsPage = (a b : List ℕ) (p q : Page) → Spells a p → Spells b q → HasPicture p q → p ≡ q
+
+-- each of the pages is spelled by some bytes
+abbrev IsSpelled : Page → Type 0
+IsSpelled page = (bytes : List ℕ) × Spells bytes page
+
+images_spelled : (pages : List Page) (bytes : List ℕ) → AreImages pages bytes → All IsSpelled pages
+images_spelled [] bytes are = All-nil IsSpelled
+images_spelled (page ∷ pages) bytes are = All-cons IsSpelled page pages (are.0, are.3.0) (images_spelled pages are.1 are.4)
+
+pages_spelled : (bytes : List ℕ) (pages : List Page) → SpellsPages bytes pages → All IsSpelled pages
+pages_spelled bytes pages (inl s) =
+    let P : List Page → Type 0 = λ l. All IsSpelled l in
+    subst P (sym s.1) (All-cons IsSpelled s.0 [] (bytes, s.2.0) (All-nil IsSpelled))
+pages_spelled bytes pages (inr s) = images_spelled pages bytes s.images
+
+same_pictures : PictureIsPage → (pages pictures : List Page) → All IsSpelled pages → All IsSpelled pictures → AllZip HasPicture pages pictures → pages ≡ pictures
+same_pictures one [] [] spelled spelled_too same = refl
+same_pictures one [] (q ∷ pictures) spelled spelled_too same = absurd same
+same_pictures one (p ∷ pages) [] spelled spelled_too same = absurd same
+same_pictures one (p ∷ pages) (q ∷ pictures) spelled spelled_too same =
+    let here = All-head IsSpelled p pages spelled in
+    let there = All-head IsSpelled q pictures spelled_too in
+    both (one here.0 there.0 p q here.1 there.1 same.0)
+    (same_pictures one pages pictures (All-tail IsSpelled p pages spelled) (All-tail IsSpelled q pictures spelled_too) same.1)
+  where
+    both : p ≡ q → pages ≡ pictures → p ∷ pages ≡ q ∷ pictures
+    both e f = cc
+
+pub pictured_pages : PictureIsPage → (input respelled : List ℕ) (pages pictures : List Page) → SpellsPages input pages → SpellsPages respelled pictures → AllZip HasPicture pages pictures
+    → pages ≡ pictures
+pictured_pages one input respelled pages pictures spells spells_too same =
+    same_pictures one pages pictures (pages_spelled input pages spells) (pages_spelled respelled pictures spells_too) same
 
 -- ---- the output
 
@@ -151,7 +211,11 @@ also_same p q p' q' first second same =
       make = ap make_in first ∙ same.make ∙ sym (ap make_in second);
     }
 
-module _ (laws : Laws) (one_page : SpellsOne) (one_plan : OnePlan) (run other : RunAccount) (p q : Plan) (has : HasPlan run.program run.words p) (has_too : HasPlan other.program other.words q) (same : AskTheSame p q) where
+-- an input spells one list of pages
+abbrev pub SpellsOneList : Type 0
+SpellsOneList = (input : List ℕ) (ps qs : List Page) → SpellsPages input ps → SpellsPages input qs → ps ≡ qs
+
+module _ (laws : Laws) (one_list : SpellsOneList) (one_plan : OnePlan) (run other : RunAccount) (p q : Plan) (has : HasPlan run.program run.words p) (has_too : HasPlan other.program other.words q) (same : AskTheSame p q) where
   same_here : (p' q' : Plan) → HasPlan run.program run.words p' → HasPlan other.program other.words q' → AskTheSame p' q'
   same_here p' q' is is_too = also_same p q p' q' (one_plan run.program run.words p' p is has) (one_plan other.program other.words q' q is_too has_too) same
 
@@ -164,18 +228,20 @@ module _ (laws : Laws) (one_page : SpellsOne) (one_plan : OnePlan) (run other : 
   one_seed : (p' q' : Plan) (seed other : ℕ) → AskTheSame p' q' → p'.make ≡ Some seed → q'.make ≡ Some other → seed ≡ other
   one_seed p' q' seed other asks some some_too = cc (asks.make, some, some_too)
 
-  -- the page that one run read is the page that the other read
+  -- the pages that one run read are the pages that the other read
   abbrev pub SameRead : Type 0
-  SameRead = (page page' : Page) → ReadsWhole run.source_before run.source_after page → ReadsWhole other.source_before other.source_after page' → page ≡ page'
+  SameRead = (pages pages' : List Page) → ReadsWhole run.source_before run.source_after pages → ReadsWhole other.source_before other.source_after pages' → pages ≡ pages'
 
   same_documents : SameRead → (text text' : List ℕ) → IsDocument run text → IsDocument other text' → text ≡ text'
   same_documents read text text' d e =
       let asks = same_here d.plan e.plan d.planned e.planned in
       let p = d.document in
       let q = e.document in
-      let pages : p.page ≡ q.page = read p.page q.page p.reads q.reads in
-      let here : IsLayout d.plan q.page p.layout = subst (λ (page : Page). IsLayout d.plan page p.layout) pages p.is_layout in
-      let layouts : p.layout ≡ q.layout = one_layout laws d.plan e.plan asks q.page p.layout q.layout here q.is_layout in
+      let r = p.read in
+      let s = q.read in
+      let pages : r.pages ≡ s.pages = read r.pages s.pages r.reads s.reads in
+      let here : AreLayouts d.plan s.pages p.layouts = subst (λ (l : List Page). AreLayouts d.plan l p.layouts) pages r.are_layouts in
+      let layouts : p.layouts ≡ q.layouts = one_list_of_layouts laws 0 d.plan e.plan asks s.pages p.layouts q.layouts here s.are_layouts in
       p.text_is ∙ ap document_of layouts ∙ sym q.text_is
 
   same_summaries : (text text' : List ℕ) → IsSummary run text → IsSummary other text' → text ≡ text'
@@ -201,15 +267,15 @@ module _ (laws : Laws) (one_page : SpellsOne) (one_plan : OnePlan) (run other : 
       ∙ ap (λ (known : Option (List ℕ)). append_known known v.text) before
       ∙ sym v.whole
 
-  -- both inputs spell one page
-  pub same_spelled : (input input' : List ℕ) (page page' : Page) → run.source_before.left ≡ Some input → other.source_before.left ≡ Some input'
-      → Spells input page → Spells input' page' → page ≡ page' → SameRead
-  same_spelled input input' page page' told told' spells spells' same read read' reads reads' =
-      one_page input read page (whole_is run.source_before run.source_after input read told reads) spells
+  -- both inputs spell the same pages
+  pub same_spelled : (input input' : List ℕ) (pages pages' : List Page) → run.source_before.left ≡ Some input → other.source_before.left ≡ Some input'
+      → SpellsPages input pages → SpellsPages input' pages' → pages ≡ pages' → SameRead
+  same_spelled input input' pages pages' told told' spells spells' same read read' reads reads' =
+      one_list input read pages (whole_is run.source_before run.source_after input read told reads) spells
       ∙ same
-      ∙ one_page input' page' read' spells' (whole_is other.source_before other.source_after input' read' told' reads')
+      ∙ one_list input' pages' read' spells' (whole_is other.source_before other.source_after input' read' told' reads')
 
   -- both inputs are one
   pub same_input : (input : List ℕ) → run.source_before.left ≡ Some input → other.source_before.left ≡ Some input → SameRead
   same_input input told told' read read' reads reads' =
-      one_page input read read' (whole_is run.source_before run.source_after input read told reads) (whole_is other.source_before other.source_after input read' told' reads')
+      one_list input read read' (whole_is run.source_before run.source_after input read told reads) (whole_is other.source_before other.source_after input read' told' reads')

@@ -1,5 +1,5 @@
--- The layout of a page.
-use Rattle.std.specs.Prelude.{◌≡◌, ◌<◌, ◌≤◌, ⊤, ℕ, List, length, map, max}
+-- The layout of a page, and those of the pages of an input.
+use Rattle.std.specs.Prelude.{◌≡◌, ◌<◌, ◌≤◌, ⊤, ℕ, ◌+◌, List, [], ◌∷◌, length, map, max}
 use Rattle.page_runs.specs.Page.{Page}
 use Rattle.page_runs.specs.Black.{black_of}
 use Rattle.layout_geom.specs.declared.rect.Rect.{Rect}
@@ -21,16 +21,16 @@ use Rattle.layout_core.specs.declared.page_layout.TheConstants.{LEAST_SIZE}
 use Rattle.layout_core.specs.declared.page_layout.CoreFault.{CoreFault}
 use Rattle.layout_core.specs.declared.page_layout.CoreFault.TheVariants as faults
 
--- The layout of a page by a plan: its kept components, the greedy cover of its white space by at most as many rectangles as
+-- The layout of a page by a plan, as the page of a number: its kept components, the greedy cover of its white space by at most as many rectangles as
 -- planned, each at least as wide and as high as the median height and as 8 pixels, the gutters among them, the greedy lines of its
 -- text in the order of their numbers, the order in which they are read, or the cycle that forbids one, and the areas that their
 -- listing falls into.
-pub record IsLayout (plan : Plan) (page : Page) (layout : Layout) : Type 0 where
+pub record IsLayoutAs (number : ℕ) (plan : Plan) (page : Page) (layout : Layout) : Type 0 where
   pub kept : Kept
   pub is_kept : IsKeptOf page kept
   pub whole : Rect
   pub sides : HasSides whole 0 0 page.width page.height
-  pub number_is : layout.page ≡ 0
+  pub number_is : layout.page ≡ number
   pub width_is : layout.width ≡ page.width
   pub height_is : layout.height ≡ page.height
   pub black_is : layout.black ≡ black_of page
@@ -44,6 +44,21 @@ pub record IsLayout (plan : Plan) (page : Page) (layout : Layout) : Type 0 where
   pub numbered : IsNumbered found layout.lines
   pub order_is : IsReadingOrder (map box_of layout.lines) layout.order
   pub areas_are : AreAreasOf (map box_of layout.lines) (listing_of layout) kept.median layout.areas
+
+-- The layout of a page that stands alone, or first: its number is 0.
+abbrev pub IsLayout : Plan → Page → Layout → Type 0
+IsLayout plan page layout = IsLayoutAs 0 plan page layout
+
+-- The layouts of these pages one by one, whose numbers rise from this one.
+abbrev pub AreLayoutsFrom : ℕ → Plan → List Page → List Layout → Type 0
+AreLayoutsFrom number plan [] [] = ⊤
+AreLayoutsFrom number plan (page ∷ pages) (layout ∷ layouts) =
+    IsLayoutAs number plan page layout × AreLayoutsFrom (number + 1) plan pages layouts
+AreLayoutsFrom number plan pages layouts = ⊥
+
+-- The layouts of the pages of an input: one for each page, whose number is the page's place.
+abbrev pub AreLayouts : Plan → List Page → List Layout → Type 0
+AreLayouts plan pages layouts = AreLayoutsFrom 0 plan pages layouts
 
 -- at most 60,000 components of the page are kept
 pub record HasFewComponents (page : Page) : Type 0 where

@@ -4,8 +4,7 @@ use Rattle.layout_outside.specs.Views.{SourceView, SinkView}
 use Rattle.layout_outside.specs.Taken.{TookAll}
 use Rattle.layout_outside.specs.Written.{Appended, AppendedPart}
 use Rattle.pbm_reader.specs.Page.{Page}
-use Rattle.pbm_reader.specs.Spelling.{Spells}
-use Rattle.page_runs.specs.Packed.{Packed, Holds, IsWhole}
+use Rattle.pbm_reader.specs.Images.{SpellsPages}
 use Rattle.hocr_writer.specs.declared.layout.Layout.{Layout}
 use Rattle.hocr_writer.specs.Document.{document_of}
 use Rattle.hocr_writer.specs.Summary.{summary_of}
@@ -13,7 +12,7 @@ use Rattle.made_page.specs.Made.{made_page}
 use Rattle.command_words.specs.declared.plan.Plan.{Plan}
 use Rattle.command_words.specs.declared.plan.Program.{Program}
 use Rattle.command_words.specs.Plans.{HasPlan}
-use Rattle.layout_core.specs.Layouts.{IsLayout, HasTooMany}
+use Rattle.layout_core.specs.Layouts.{IsLayout, AreLayouts}
 
 -- What a run did: the program, the words behind its name, what contracts see of the three streams before and after, and the
 -- status that it answered.
@@ -34,7 +33,7 @@ pub record RunAccount : Type 0 where
 abbrev pub IsPlanned : Program → List (List ℕ) → Type 0
 IsPlanned program words = (plan : Plan) × HasPlan program words plan
 
--- They tell it to read a page.
+-- They tell it to read pages.
 abbrev pub IsReading : Program → List (List ℕ) → Type 0
 IsReading program words = (plan : Plan) × HasPlan program words plan × (plan.make ≡ None)
 
@@ -44,34 +43,25 @@ IsMaking program words = (plan : Plan) × (seed : ℕ) × HasPlan program words 
 
 -- ---- what was read
 
--- The input was read until the source answered its end, and it spells the page.
-pub record ReadsWhole (before after : SourceView) (page : Page) : Type 0 where
+-- The input was read until the source answered its end, and it spells these pages.
+pub record ReadsWhole (before after : SourceView) (pages : List Page) : Type 0 where
   pub input : List ℕ
   pub took : TookAll before after input
-  pub spells : Spells input page
+  pub spells : SpellsPages input pages
 
--- The input was read to its end, it spells a page, and these are the page's rows.
-pub record ReadsRows (before after : SourceView) (rows : Packed) : Type 0 where
-  pub page : Page
-  pub reads : ReadsWhole before after page
-  pub whole : IsWhole rows
-  pub held : Holds rows page
-
--- The input was read to its end, and it spells a page of which so many components are kept, and that is too many.
-pub record ReadsTooMany (before after : SourceView) (count : ℕ) : Type 0 where
-  pub page : Page
-  pub reads : ReadsWhole before after page
-  pub too_many : HasTooMany page count
+-- The input was read to its end, it spells pages, and these are the pages' layouts by the plan, in the order of the pages.
+pub record ReadsLayouts (plan : Plan) (before after : SourceView) (layouts : List Layout) : Type 0 where
+  pub pages : List Page
+  pub reads : ReadsWhole before after pages
+  pub are_layouts : AreLayouts plan pages layouts
 
 -- ---- what was written
 
--- The input was read to its end, it spells a page, and the text is the document of the page's layout by the plan.
+-- The input was read to its end, it spells pages, and the text is the document of the pages' layouts by the plan.
 pub record ReadsDocument (plan : Plan) (before after : SourceView) (text : List ℕ) : Type 0 where
-  pub page : Page
-  pub reads : ReadsWhole before after page
-  pub layout : Layout
-  pub is_layout : IsLayout plan page layout
-  pub text_is : text ≡ document_of layout
+  pub layouts : List Layout
+  pub read : ReadsLayouts plan before after layouts
+  pub text_is : text ≡ document_of layouts
 
 -- The text is the summary of the layout, by the plan, of the page of the seed.
 pub record IsSummaryOf (plan : Plan) (seed : ℕ) (text : List ℕ) : Type 0 where
@@ -79,7 +69,7 @@ pub record IsSummaryOf (plan : Plan) (seed : ℕ) (text : List ℕ) : Type 0 whe
   pub is_layout : IsLayout plan (made_page seed) layout
   pub text_is : text ≡ summary_of layout
 
--- The words have a plan without a seed, and the text is the document, by that plan, of the page that was read.
+-- The words have a plan without a seed, and the text is the document, by that plan, of the pages that were read.
 pub record IsDocument (run : RunAccount) (text : List ℕ) : Type 0 where
   pub plan : Plan
   pub planned : HasPlan run.program run.words plan
@@ -94,7 +84,7 @@ pub record IsSummary (run : RunAccount) (text : List ℕ) : Type 0 where
   pub making : plan.make ≡ Some seed
   pub summary : IsSummaryOf plan seed text
 
--- The text is the document of the page that was read, or the summary of the page that was made, as the words plan.
+-- The text is the document of the pages that were read, or the summary of the page that was made, as the words plan.
 abbrev pub IsOutput : RunAccount → List ℕ → Type 0
 IsOutput run text = IsDocument run text ⊎ IsSummary run text
 

@@ -1,5 +1,5 @@
 -- How a run ends: its status, why that comes, and when it has to come. Both programs promise it in the same words.
-use Rattle.std.specs.Prelude.{◌≡◌, ◌≢◌, ◌≤◌, ◌⊎◌, ⊤, ℕ, List, Some, Result, Err, IfSome, IfOk, IsErr, IfErr}
+use Rattle.std.specs.Prelude.{◌≡◌, ◌≢◌, ◌≤◌, ◌⊎◌, ⊤, ℕ, List, Some, Result, Err, IfSome, IfOk, IfErr, All}
 use Rattle.layout_outside.specs.Causes.{Rose}
 use Rattle.layout_outside.specs.Views.{SourceView, SinkView}
 use Rattle.layout_outside.specs.Taken.{Took}
@@ -7,13 +7,12 @@ use Rattle.layout_outside.specs.Written.{Appended, AppendedPart, WritesText}
 use Rattle.pbm_reader.specs.declared.fault.PageFault.{PageFault}
 use Rattle.pbm_reader.specs.declared.fault.PageFault.TheVariants as faults
 use Rattle.pbm_reader.specs.Page.{Page}
-use Rattle.pbm_reader.specs.Spelling.{Spells}
-use Rattle.pbm_reader.specs.Fault.{HasFault, DecidesNothing}
-use Rattle.pbm_reader.specs.Reading.{Refuses}
+use Rattle.pbm_reader.specs.Images.{SpellsPages}
 use Rattle.command_words.specs.declared.plan.Program.{Program}
 use Rattle.command_words.specs.Plans.{HasNoPlan}
-use Rattle.layout_core.specs.Layouts.{HasFewComponents, HasTooMany}
-use Rattle.layout_core.specs.Run.{RunAccount, IsPlanned, IsReading, IsMaking, ReadsTooMany, WritesOutput, WritesFront}
+use Rattle.layout_core.specs.Layouts.{HasFewComponents}
+use Rattle.layout_core.specs.Run.{RunAccount, IsPlanned, IsReading, IsMaking, WritesOutput, WritesFront}
+use Rattle.layout_core.specs.Owed.{Owes, IsOwed, DecidesNoRefusal}
 use Rattle.layout_core.specs.RefusalLines.{refusal_line}
 use Rattle.layout_core.specs.declared.refusal.Refusal.{Refusal}
 use Rattle.layout_core.specs.declared.refusal.Refusal.TheVariants as refusals
@@ -50,20 +49,30 @@ Says run refusal = WritesText run.err_before run.err_after (refusal_line refusal
 
 -- ---- why a layout was refused
 
--- Why there is no layout of what was left of the input.
-abbrev pub RefusesLayout : SourceView → SourceView → Refusal → Type 0
-RefusesLayout before after (refusals.Page fault) = Refuses before after fault
-RefusesLayout before after (refusals.TooMany count) = ReadsTooMany before after count
-RefusesLayout before after refusals.Memory = ⊤
-RefusesLayout before after refusal = ⊥
+-- To the input, or to some input where the source does not tell it, the refusal of so many components is owed.
+pub record OwesTooMany (source : SourceView) (count : ℕ) : Type 0 where
+  pub input : List ℕ
+  pub is_left : IfSome source.left (λ left. left ≡ input)
+  pub owes : Owes input (refusals.TooMany count)
+
+-- A read failed, and these bytes, which were taken of the input, decide no refusal.
+pub record StopsUndecided (before after : SourceView) : Type 0 where
+  pub taken : List ℕ
+  pub took : Took before after taken
+  pub undecided : DecidesNoRefusal taken
+
+-- Why there are no layouts of what was left of the input.
+abbrev pub RefusesLayouts : SourceView → SourceView → Refusal → Type 0
+RefusesLayouts before after (refusals.Page faults.ReadFault) = StopsUndecided before after
+RefusesLayouts before after (refusals.Page faults.Memory) = ⊤
+RefusesLayouts before after (refusals.Page fault) = IfSome before.left (λ input. Owes input (refusals.Page fault))
+RefusesLayouts before after (refusals.TooMany count) = OwesTooMany before count
+RefusesLayouts before after refusals.Memory = ⊤
+RefusesLayouts before after refusal = ⊥
 
 -- Want of memory, in the reader or elsewhere.
 abbrev pub IsWantOfMemory : Refusal → Type 0
 IsWantOfMemory refusal = (refusal ≡ refusals.Memory) ⊎ (refusal ≡ refusals.Page faults.Memory)
-
--- The answer is this refusal, or want of memory.
-abbrev pub AnswersRefusal : {T : Type 0} → Refusal → Result T Refusal → Type 0
-AnswersRefusal refusal result = IsErr result × IfErr result (λ answer. (answer ≡ refusal) ⊎ IsWantOfMemory answer)
 
 -- The count of faults never falls, and a failed read is answered only where it rose.
 pub record HasRefusalCause {T : Type 0} (before after : SourceView) (result : Result T Refusal) : Type 0 where
@@ -74,20 +83,11 @@ pub record HasRefusalCause {T : Type 0} (before after : SourceView) (result : Re
 abbrev pub ToldWhole : SourceView → SourceView → List ℕ → Type 0
 ToldWhole before after input = (before.left ≡ Some input) × ¬ Rose before.faults after.faults
 
--- A page was read, and what is wanted of it was answered, or a refusal with its cause.
-pub record AnswersPage {T : Type 0} (before after : SourceView) (result : Result T Refusal) (IsWanted : T → Type 0) : Type 0 where
+-- What is wanted of the pages of an input was answered, or a refusal with its cause.
+pub record AnswersPages {T : Type 0} (before after : SourceView) (result : Result T Refusal) (IsWanted : T → Type 0) : Type 0 where
   pub wanted : IfOk result IsWanted
-  pub refused : IfErr result (RefusesLayout before after)
+  pub refused : IfErr result (RefusesLayouts before after)
   pub cause : HasRefusalCause before after result
-  -- The fault that the input has is answered.
-  pub faulty : (input : List ℕ) (fault : PageFault) → ToldWhole before after input → HasFault input fault
-      → AnswersRefusal (refusals.Page fault) result
-  -- Too many kept components are counted.
-  pub limit : (input : List ℕ) (page : Page) (count : ℕ) → ToldWhole before after input → Spells input page → HasTooMany page count
-      → AnswersRefusal (refusals.TooMany count) result
-  -- A page with few components is refused for want of memory alone.
-  pub complete : (input : List ℕ) (page : Page) → ToldWhole before after input → Spells input page → HasFewComponents page
-      → IfErr result IsWantOfMemory
 
 -- The text was written to `out`, or the line of a refusal to `err`, and the status says which.
 pub record Finishes {T : Type 0} (ErrStays OutStays : Type 0) (out_before out_after err_before err_after : SinkView)
@@ -100,25 +100,23 @@ pub record Finishes {T : Type 0} (ErrStays OutStays : Type 0) (out_before out_af
 
 -- ---- how a run ends
 
--- The input has a fault of this status, and the line names it.
+-- The refusal of a fault of this status is owed to the input, and the line names the fault.
 pub record RefusesPage (status : ℕ) (run : RunAccount) : Type 0 where
   pub fault : PageFault
   pub status_is : fault_status fault ≡ status
-  pub has : IfSome run.source_before.left (λ input. HasFault input fault)
+  pub owes : IfSome run.source_before.left (λ input. Owes input (refusals.Page fault))
   pub line : Says run (refusals.Page fault)
 
--- The input was read to its end, more than 60,000 components of its page are kept, and the line counts them.
+-- The refusal of too many components of a page is owed to the input, and the line counts them.
 pub record RefusesComponents (run : RunAccount) : Type 0 where
   pub count : ℕ
-  pub too_many : ReadsTooMany run.source_before run.source_after count
+  pub too_many : OwesTooMany run.source_before count
   pub line : Says run (refusals.TooMany count)
 
--- A read failed, what was taken of the input decides no fault of it, and the line says that a read failed.
+-- A read failed, what was taken of the input decides no refusal, and the line says that a read failed.
 pub record FailsToRead (run : RunAccount) : Type 0 where
   pub failed : Rose run.source_before.faults run.source_after.faults
-  pub taken : List ℕ
-  pub took : Took run.source_before run.source_after taken
-  pub undecided : DecidesNothing taken
+  pub stops : StopsUndecided run.source_before run.source_after
   pub line : Says run (refusals.Page faults.ReadFault)
 
 -- A write to `out` failed, a proper front of the output was written, and the line says that a write failed.
@@ -139,18 +137,19 @@ EndsWritten run = (run.status ≡ 0) ⊎ ((run.status ≡ 6) × Rose run.out_bef
 pub record IsRun (SourceStays OutStays ErrStays : Type 0) (run : RunAccount) : Type 0 where
   -- The status is 0 or one from 2 to 7.
   pub statuses : IsStatus run.status
-  -- The headline. 0: the words have a plan, the input was read to its end, it spells a page, and just the document of the page's
-  -- layout by that plan was written; or the plan has a seed, and just the summary of the layout of the seed's page was.
+  -- The headline. 0: the words have a plan, the input was read to its end, it spells pages, and just the document of the pages'
+  -- layouts by that plan was written; or the plan has a seed, and just the summary of the layout of the seed's page was.
   pub done : run.status ≡ 0 → WritesOutput run
   -- 0: nothing was written to `err`.
   pub silent : run.status ≡ 0 → ErrStays
   -- 2: the words have no plan, nothing was read, and the line tells which words the program takes.
   pub usage : run.status ≡ 2 → HasNoPlan run.program run.words × SourceStays × Says run (refusals.Usage run.program)
-  -- 3: the words plan to read, the input has a fault of this status, and the line names it.
+  -- 3: the words plan to read, the refusal of a fault of this status is owed to the input, and the line names it.
   pub bad_page : run.status ≡ 3 → IsReading run.program run.words × RefusesPage 3 run
-  -- 4: the words plan to read, and the input has a fault of this status, or its page more than 60,000 kept components.
+  -- 4: the words plan to read, and owed to the input is the refusal of a fault of this status, or of more than 60,000 kept
+  -- components of a page.
   pub limited : run.status ≡ 4 → IsReading run.program run.words × (RefusesPage 4 run ⊎ RefusesComponents run)
-  -- 5: the words plan to read, and a read failed before the bytes that were taken decided a fault.
+  -- 5: the words plan to read, and a read failed before the bytes that were taken decided a refusal.
   pub read_fault : run.status ≡ 5 → IsReading run.program run.words × FailsToRead run
   -- 6: the output is known, a write to `out` failed, and a proper front was written.
   pub write_fault : run.status ≡ 6 → FailsToWrite run
@@ -162,16 +161,13 @@ pub record IsRun (SourceStays OutStays ErrStays : Type 0) (run : RunAccount) : T
   pub planless : HasNoPlan run.program run.words → EndsWith run 2
   -- With each other status but 7 the words have a plan.
   pub planned : run.status ≢ 2 → run.status ≢ 7 → IsPlanned run.program run.words
-  -- An input with a fault ends with the fault's status, unless a read failed or memory was refused.
-  pub faulty : IsReading run.program run.words → (input : List ℕ) (fault : PageFault)
-      → ToldWhole run.source_before run.source_after input → HasFault input fault → EndsWith run (fault_status fault)
-  -- An input with too many kept components ends with 4, unless a read failed or memory was refused.
-  pub limit : IsReading run.program run.words → (input : List ℕ) (page : Page) (count : ℕ)
-      → ToldWhole run.source_before run.source_after input → Spells input page → HasTooMany page count → EndsWith run 4
-  -- Completeness: an input that spells a page with few components ends with its document written, unless a read or a write failed
-  -- or memory was refused.
-  pub complete : IsReading run.program run.words → (input : List ℕ) (page : Page)
-      → ToldWhole run.source_before run.source_after input → Spells input page → HasFewComponents page → EndsWritten run
+  -- The refusal that is owed ends the run with its status, unless a read failed or memory was refused.
+  pub owed : (input : List ℕ) (refusal : Refusal) → ToldWhole run.source_before run.source_after input
+      → IsOwed run.program run.words input refusal → EndsWith run (status_of refusal)
+  -- Completeness: an input that spells pages with few components each ends with its document written, unless a read or a write
+  -- failed or memory was refused.
+  pub complete : IsReading run.program run.words → (input : List ℕ) (pages : List Page)
+      → ToldWhole run.source_before run.source_after input → SpellsPages input pages → All HasFewComponents pages → EndsWritten run
   -- A run on a made page reads nothing.
   pub unread : IsMaking run.program run.words → SourceStays
   -- A run on a made page ends with its summary written, unless a write failed or memory was refused.

@@ -1,7 +1,8 @@
 -- What is defined of a page and of a run is one thing, so that two runs on one input write the same.
 use Rattle.std.specs.Prelude.{◌≡◌, ℕ, List, Some}
+use Rattle.std.specs.List.{AllZip}
 use Rattle.packed_rows.specs.Page.{Page, HasPicture}
-use Rattle.pbm_reader.specs.Spelling.{Spells}
+use Rattle.pbm_reader.specs.Images.{SpellsPages}
 use Rattle.command_words.specs.declared.plan.Plan.{Plan}
 use Rattle.command_words.specs.Plans.{HasPlan}
 use Rattle.hocr_writer.specs.declared.layout.Layout.{Layout}
@@ -26,12 +27,13 @@ OutputIsUnique =
     → run.out_before.written ≡ other.out_before.written → WritesOutput run → WritesOutput other
     → run.out_after.written ≡ other.out_after.written
 
--- Equal pictures, equal documents: two such runs write the same for two inputs that spell pages of one size with the same black places,
--- however each spells it.
+-- Equal pictures, equal documents: two such runs write the same for two inputs that spell as many pages, one by one of one size with the
+-- same black places, however each spells them.
 abbrev pub PictureDecidesOutput : Type 0
 PictureDecidesOutput =
     (run other : RunAccount) (p q : Plan) → HasPlan run.program run.words p → HasPlan other.program other.words q → AskTheSame p q
-    → (input respelled : List ℕ) (page picture : Page) → run.source_before.left ≡ Some input → other.source_before.left ≡ Some respelled
-    → Spells input page → Spells respelled picture → HasPicture page picture
+    → (input respelled : List ℕ) (pages pictures : List Page)
+    → run.source_before.left ≡ Some input → other.source_before.left ≡ Some respelled
+    → SpellsPages input pages → SpellsPages respelled pictures → AllZip HasPicture pages pictures
     → run.out_before.written ≡ other.out_before.written → WritesOutput run → WritesOutput other
     → run.out_after.written ≡ other.out_after.written

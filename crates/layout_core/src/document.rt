@@ -1,45 +1,67 @@
-//! The document of the page that a source spells.
-ghost use Rattle.std.specs.Prelude.{◌≡◌, ◌≤◌, ℕ, List, IfOk, IfErr};
-ghost use Rattle.pbm_reader.specs.declared.fault.PageFault.{PageFault};
-ghost use Rattle.pbm_reader.specs.Page.{Page};
-ghost use Rattle.pbm_reader.specs.Spelling.{Spells};
-ghost use Rattle.pbm_reader.specs.Fault.{HasFault};
-ghost use Rattle.layout_core.specs.Run.{ReadsRows, ReadsDocument};
-ghost use Rattle.layout_core.specs.Status.{AnswersPage, AnswersRefusal, HasRefusalCause, IsWantOfMemory, RefusesLayout, ToldWhole};
-ghost use Rattle.layout_core.specs.declared.refusal.Refusal.{Refusal};
+//! The document of the pages that a source spells.
+ghost use Rattle.std.specs.Prelude.{◌≡◌, ◌≤◌, true, false, IfOk, IfErr};
+ghost use Rattle.std.specs.Io.KnownBytes.{IsAtEnd};
+ghost use Rattle.layout_core.specs.Reading.{AnswersNext, GoesOn};
+ghost use Rattle.layout_core.specs.Run.{ReadsDocument, ReadsLayouts};
+ghost use Rattle.layout_core.specs.Status.{AnswersPages};
 
 use crate::job::Searchers;
-use crate::page_layout::layout_of;
+use crate::page_layout::numbered_layout;
 use crate::refusal::Refusal;
 use box_search::Searcher;
 use command_words::Plan;
 use components::kept_is_unique;
-use hocr_writer::hocr_text;
+use hocr_writer::{Layouts, pages_text};
 use layout_outside::Source;
 use line_search::Grid;
 use page_runs::{RunPage, given_page_is_held};
-use pbm_reader::{each_input_is_judged, read_page};
+use pbm_reader::{Images, each_input_is_judged};
 use std::alloc::Global;
 use whitespace_cover::White;
 
-/// Reads a page to the end of the input.
-fn read_rows<S: Source>(alloc: Global, src: &mut S) -> Result<RunPage, Refusal>
-    ensures rows { IfOk result (ReadsRows (S.view src.old) (S.view src.new)) }
-    ensures refused { IfErr result (RefusesLayout (S.view src.old) (S.view src.new)) }
-    ensures cause { HasRefusalCause (S.view src.old) (S.view src.new) result }
-    ensures complete { (input : List ℕ) (page : Page) → ToldWhole (S.view src.old) (S.view src.new) input → Spells input page
-        → IfErr result IsWantOfMemory }
-    ensures faulty { (input : List ℕ) (fault : PageFault) → ToldWhole (S.view src.old) (S.view src.new) input → HasFault input fault
-        → AnswersRefusal (Refusal.Page fault) result }
+/// Reads the next page, or answers `None` where the input ends behind a page.
+fn next_page<S: Source>(
+    alloc: Global,
+    images: &mut Images,
+    src: &mut S,
+) -> Result<Option<RunPage>, Refusal>
+    requires { GoesOn images.old (S.view src.old) }
+    ensures { AnswersNext images.old images.new (S.view src.old) (S.view src.new) result }
 {
-    // The law of a page that was read.
+    // The laws of the format, of a page that was read, and of a page's components.
+    each_input_is_judged();
     given_page_is_held();
+    kept_is_unique();
     let mut page = RunPage::empty(alloc);
-    read_page(alloc, src, &mut page)?;
-    Ok(page)
+    match images.next(alloc, src, &mut page)? {
+        Some(_) => Ok(Some(page)),
+        None => Ok(None),
+    }
 }
 
-/// Reads a page to the end of the input, and answers the document of its layout by the plan.
+/// Reads the pages of the input to its end, and answers their layouts by the plan. The rows of one page are held at a time.
+fn read_layouts<F: Searcher<White>, G: Searcher<Grid>, S: Source>(
+    alloc: Global,
+    plan: &Plan,
+    searchers: &mut Searchers<F, G>,
+    src: &mut S,
+) -> Result<Layouts, Refusal>
+    requires ready { F.ready searchers.old.whites × G.ready searchers.old.lines }
+    requires some { 1 ≤ plan.now.rects }
+    requires few { plan.now.rects ≤ 256 }
+    ensures { AnswersPages (S.view src.old) (S.view src.new) result (ReadsLayouts plan.now (S.view src.old) (S.view src.new)) }
+{
+    let mut images = Images::new(alloc)?;
+    let mut layouts = Layouts::new(alloc);
+    while let Some(page) = next_page(alloc, &mut images, src)? {
+        let number = images.count() - 1;
+        let layout = numbered_layout(alloc, &page, number, plan, searchers)?;
+        layouts.push(layout)?;
+    }
+    Ok(layouts)
+}
+
+/// Reads the pages of the input to its end, and answers the document of their layouts by the plan.
 pub(crate) fn read_document<F: Searcher<White>, G: Searcher<Grid>, S: Source>(
     alloc: Global,
     plan: &Plan,
@@ -49,13 +71,9 @@ pub(crate) fn read_document<F: Searcher<White>, G: Searcher<Grid>, S: Source>(
     requires ready { F.ready searchers.old.whites × G.ready searchers.old.lines }
     requires some { 1 ≤ plan.now.rects }
     requires few { plan.now.rects ≤ 256 }
-    ensures { AnswersPage (S.view src.old) (S.view src.new) result
+    ensures { AnswersPages (S.view src.old) (S.view src.new) result
         (λ text. ReadsDocument plan.now (S.view src.old) (S.view src.new) text.items) }
 {
-    // The laws of the format and of a page's components.
-    each_input_is_judged();
-    kept_is_unique();
-    let page = read_rows(alloc, src)?;
-    let layout = layout_of(alloc, &page, plan, searchers)?;
-    Ok(hocr_text(alloc, &layout)?)
+    let layouts = read_layouts(alloc, plan, searchers, src)?;
+    Ok(pages_text(alloc, &layouts)?)
 }

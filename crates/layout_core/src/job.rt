@@ -9,8 +9,10 @@ use crate::refusal::{Refusal, refuse};
 use crate::summary::make_summary;
 use box_search::Searcher;
 use command_words::{Plan, Program, WordFault, words_have_one_plan, words_of};
+use components::kept_is_unique;
 use layout_outside::{Sink, Source, put_all};
 use line_search::Grid;
+use pbm_reader::each_input_is_judged;
 use std::alloc::Global;
 use whitespace_cover::White;
 
@@ -28,7 +30,7 @@ pub(crate) struct Job<'a> {
 /// The streams of a run.
 #[derive(Drop)]
 pub(crate) struct Streams<'a, S: Source, K: Sink, E: Sink> {
-    /// Where the page comes from.
+    /// Where the pages come from.
     pub source: &'a mut S,
     /// Where the document or the summary goes.
     pub out: &'a mut K,
@@ -75,7 +77,7 @@ fn finish<K: Sink, E: Sink>(text: Result<Vec<u8>, Refusal>, out: &mut K, err: &m
     }
 }
 
-/// Does what the job's plan says: reads a page from the source and writes the document of its layout to `out`, or makes the
+/// Does what the job's plan says: reads the pages of the source and writes the document of their layouts to `out`, or makes the
 /// page of a seed and writes the summary of its layout. It answers the status of the run, which is not 2.
 pub(crate) fn lay_out<F: Searcher<White>, G: Searcher<Grid>, S: Source, K: Sink, E: Sink>(
     alloc: Global,
@@ -93,8 +95,10 @@ pub(crate) fn lay_out<F: Searcher<White>, G: Searcher<Grid>, S: Source, K: Sink,
         (change E.view streams.entry.err.now streams.exit.1.1.0.now)
         result }
 {
-    // The law of the words.
+    // The laws of the words, of the format, and of a page's components.
     words_have_one_plan();
+    each_input_is_judged();
+    kept_is_unique();
     let Streams { source, out, err } = streams;
     match job.plan.make {
         Some(seed) => {

@@ -10,8 +10,8 @@ use whitespace_cover::cover_is_unique;
 
 /// States three laws, and does nothing: a page has one layout by all plans with the same rectangles, image and seed; two runs
 /// that end with status 0 write the same for one input where their words have such plans; and so they do for two inputs that
-/// spell one picture. So the bytes of `layout` are those of `layout1`, whatever the number of workers and their schedule, and equal
-/// pictures have equal documents, whatever their form, comments, white bytes and padding bits are.
+/// spell the same pictures, one by one. So the bytes of `layout` are those of `layout1`, whatever the number of workers and their
+/// schedule, and equal pictures have equal documents, whatever their form, comments, white bytes and padding bits are.
 pub fn output_is_unique()
     ensures one_layout { LayoutIsUnique }
     ensures one_output { OutputIsUnique }

@@ -3,7 +3,7 @@ ghost use Rattle.std.specs.Prelude.{◌≡◌, ◌≤◌, IfOk, IfErr};
 ghost use Rattle.page_runs.specs.Page.{Page};
 ghost use Rattle.page_runs.specs.Packed.{Holds, IsWhole, page_of};
 ghost use Rattle.layout_geom.specs.Rectangles.{HasSides};
-ghost use Rattle.layout_core.specs.Layouts.{IsLayout, IsCoreFault};
+ghost use Rattle.layout_core.specs.Layouts.{IsLayout, IsLayoutAs, IsCoreFault};
 
 use crate::job::Searchers;
 use crate::numbering::{areas_in, boxes_of, number_lines};
@@ -128,4 +128,25 @@ pub fn layout_of<F: Searcher<White>, G: Searcher<Grid>>(
         order,
         areas,
     })
+}
+
+/// The layout of a page by a plan, as `layout_of` has it, with the number that the page has in its input.
+pub(crate) fn numbered_layout<F: Searcher<White>, G: Searcher<Grid>>(
+    alloc: Global,
+    page: &RunPage,
+    number: u32,
+    plan: &Plan,
+    searchers: &mut Searchers<F, G>,
+) -> Result<Layout, CoreFault>
+    requires ready { F.ready searchers.old.whites × G.ready searchers.old.lines }
+    requires whole { IsWhole page.now }
+    requires some { 1 ≤ plan.now.rects }
+    requires few { plan.now.rects ≤ 256 }
+    ensures ready { F.ready searchers.new.whites × G.ready searchers.new.lines }
+    ensures layout { (held : Page) → Holds page.now held → IfOk result (IsLayoutAs number plan.now held) }
+    ensures fault { (held : Page) → Holds page.now held → IfErr result (IsCoreFault held) }
+{
+    let mut layout = layout_of(alloc, page, plan, searchers)?;
+    layout.page = number;
+    Ok(layout)
 }

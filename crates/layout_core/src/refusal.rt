@@ -24,9 +24,9 @@ pub type Line = ArrayString<80>;
 pub enum Refusal {
     /// The words of the program's command line have no plan.
     Usage(Program),
-    /// No page was read.
+    /// A page was not read.
     Page(PageFault),
-    /// More than 60,000 components of the page are kept, and so many.
+    /// More than 60,000 components of a page are kept, and so many.
     TooMany { count: u32 },
     /// A write to `out` failed.
     WriteFault,

@@ -3,5 +3,5 @@ mod blocks;
 mod devices;
 mod documents;
 mod faults;
-mod streams;
+mod images;
 mod words;

@@ -7,7 +7,7 @@ ghost use Rattle.frontier_turn.specs.Callers.{IsOwn};
 use super::pages::{RIGHT, Sides, corner_block, shape_of};
 use bound_word::BoundWord;
 use box_search::{Lease, Space, Take};
-use frontier_turn::{Pass, Shared};
+use frontier_turn::{DividesPasses, Pass, Shared};
 use search_trials::{give_back, take_lease, work_off};
 use std::process::Abort;
 use std::sync::Wait;

@@ -28,13 +28,12 @@ impl Outcome {
     }
 }
 
-/// The input of a run, and its devices: they move at most a piece in a call, and fail at the calls with these numbers.
+/// The input of a run, and its devices: they move at most a piece in a call, and the source fails at the calls with these numbers.
 #[derive(Clone, Copy)]
 pub(super) struct Given<'a> {
     pub input: &'a [u8],
     pub piece: usize,
     pub read_fails: &'a [u64],
-    pub write_fails: &'a [u64],
 }
 
 impl Given<'_> {
@@ -48,8 +47,7 @@ impl Given<'_> {
     fn out(&self, alloc: Global) -> Result<MemSink, Fail>
         requires { 0 < self.now.piece }
     {
-        let fails = self.write_fails.to_vec(alloc)?;
-        Ok(MemSink::with_room(alloc, 8192, self.piece, fails)?)
+        Ok(MemSink::with_room(alloc, 65_536, self.piece, Vec::new(alloc))?)
     }
 
     fn err(&self, alloc: Global) -> Result<MemSink, Fail>
@@ -67,7 +65,6 @@ pub(super) fn in_pieces(input: &[u8], piece: usize) -> Given<'_>
         input,
         piece,
         read_fails: &[],
-        write_fails: &[],
     }
 }
 

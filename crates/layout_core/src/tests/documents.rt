@@ -34,7 +34,7 @@ const BLANK_PAGE: &[u8] = b"\
 ";
 
 /// The body of the document of a block of 3 by 3 in the corner of a page of 16 by 16.
-pub(super) const CORNER_BLOCK: &[u8] = b"\
+const CORNER_BLOCK: &[u8] = b"\
 <div class='ocr_page' id='page_0' title='bbox 0 0 16 16; ppageno 0; x_black 9'>\n\
 <div class='ocrx_whitespace' id='white_0_0' title='bbox 3 0 16 16'></div>\n\
 ";
@@ -110,7 +110,7 @@ const HEADING_OVER_TWO_COLUMNS: &[u8] = b"\
 ";
 
 /// The document with this body.
-pub(super) fn document(alloc: Global, body: &[u8]) -> Result<Vec<u8>, Fail> {
+fn document(alloc: Global, body: &[u8]) -> Result<Vec<u8>, Fail> {
     let mut text = FRONT.to_vec(alloc)?;
     text.extend_from_slice(body)?;
     text.extend_from_slice(END)?;

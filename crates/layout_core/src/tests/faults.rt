@@ -1,11 +1,11 @@
 //! Faults of the input: their statuses and lines.
-use super::devices::{in_pieces, run};
+use super::devices::{Given, in_pieces, run};
 use std::alloc::Global;
 use std::test::Fail;
 
 #[test]
 fn faults_of_the_input_have_their_statuses_and_lines(rt: HostRuntime) -> Result<(), Fail> {
-    let faults: [(&[u8], u8, &[u8]); 17] = [
+    let faults: [(&[u8], u8, &[u8]); 19] = [
         (b"", 3, b"bad page: magic at 0\n"),
         (b"Q4", 3, b"bad page: magic at 0\n"),
         (b"P", 3, b"bad page: magic at 1\n"),
@@ -18,7 +18,13 @@ fn faults_of_the_input_have_their_statuses_and_lines(rt: HostRuntime) -> Result<
         (b"P4\n16 2\n\0\0\0", 3, b"bad page: truncated at 11\n"),
         (b"P1\n2 1\n0x", 3, b"bad page: pixel at 8\n"),
         (b"P1\n1 1\n01", 3, b"bad page: trailing at 8\n"),
-        (b"P4\n8 1\n\0\0", 3, b"bad page: trailing at 8\n"),
+        (b"P4\n8 1\n\0\0", 3, b"bad page: magic at 8\n"),
+        (b"P4\n8 1\n\0P1\n1 1\n0", 3, b"bad page: magic at 9\n"),
+        (
+            b"P4\n8 1\n\0P4\n16 2\n\0\0\0",
+            3,
+            b"bad page: truncated at 19\n",
+        ),
         (b"P4\n8193 1\n", 4, b"limit: size 8193 by 1\n"),
         (b"P4\n8192 4097\n", 4, b"limit: size 8192 by 4097\n"),
         (b"P4\n99999999999 1\n", 4, b"limit: size 999999999 by 1\n"),
@@ -70,14 +76,38 @@ fn blocks(alloc: Global) -> Result<Vec<u8>, Fail> {
     Ok(input)
 }
 
+// What stands behind an image has no part in it, nor has a read that fails behind it.
 #[test]
 fn more_than_60000_components_are_refused(rt: HostRuntime) -> Result<(), Fail> {
-    let outcome = run(&rt, rt.alloc(), &[], &in_pieces(&blocks(rt.alloc())?, 4096))?;
+    let alloc = rt.alloc();
+    let line: &[u8] = b"limit: 60001 components\n";
+    for behind in [b"".as_slice(), b"x", b"P4\n0 1\n"] {
+        let mut input = blocks(alloc)?;
+        let image = input.len();
+        input.extend_from_slice(behind)?;
+        let given = Given {
+            input: &input,
+            piece: 4096,
+            read_fails: &[image as u64 / 4096 + 1],
+        };
+        let outcome = run(&rt, alloc, &[], &given)?;
+        assert_eq!(rt; outcome.status, 4);
+        assert_eq!(rt; outcome.err.as_slice(), line);
+        assert_eq!(rt; outcome.out.calls, 0);
+    }
+    Ok(())
+}
+
+#[test]
+fn a_later_page_may_not_have_more_than_60000_components(rt: HostRuntime) -> Result<(), Fail> {
+    let alloc = rt.alloc();
+    let line: &[u8] = b"limit: 60001 components\n";
+    let mut input = b"P4\n8 1\n\0".to_vec(alloc)?;
+    let image = blocks(alloc)?;
+    input.extend_from_slice(&image)?;
+    let outcome = run(&rt, alloc, &[], &in_pieces(&input, 4096))?;
     assert_eq!(rt; outcome.status, 4);
-    assert_eq!(rt;
-        outcome.err.as_slice(),
-        b"limit: 60001 components\n".as_slice()
-    );
+    assert_eq!(rt; outcome.err.as_slice(), line);
     assert_eq!(rt; outcome.out.calls, 0);
     Ok(())
 }

@@ -1,11 +1,14 @@
 use Rattle.std.proofs.Common.{refl}
+use Rattle.layout_core.proofs.Owing.{input_laws}
 use Rattle.layout_core.proofs.Endings.{document_ends, summary_ends}
 use Rattle.layout_core.proofs.job.lay_out.Goals as goal
 
 pub returns : goal.returns
 returns g c =
+    let judged = c.each_input_is_judged.ensures in
+    let laws = input_laws c.kept_is_unique.ensures judged.one_page judged.never_both judged.one_list judged.one_pages_fault judged.never_pages_and_fault in
     let text = c.read_document-text in
-    document_ends _ _ _ _ c.words_have_one_plan.ensures.one_plan c.args.job.now.plan c.requires.planned c.in-None.is text.result (λ t. t.items) text.ensures c.finish-2.ensures
+    document_ends _ _ _ _ laws c.words_have_one_plan.ensures.one_plan c.args.job.now.plan c.requires.planned c.in-None.is text.result (λ t. t.items) text.ensures c.finish-2.ensures
 
 pub returns-in-Some : goal.returns-in-Some
 returns-in-Some g c =

@@ -1,4 +1,4 @@
-use Rattle.layout_core.proofs.Unique.{Laws, one_layout, one_output, same_input, same_spelled}
+use Rattle.layout_core.proofs.Unique.{Laws, one_layout, one_output, pictured_pages, same_input, same_spelled}
 use Rattle.layout_core.proofs.law.output_is_unique.Goals as goal
 
 pub returns : goal.returns
@@ -10,15 +10,15 @@ returns c =
       order = c.order_and_areas_are_unique.ensures.one_order;
       areas = c.order_and_areas_are_unique.ensures.one_list_of_areas;
     } in
-    let one_page = c.each_input_is_judged.ensures.one_page in
+    let one_list = c.each_input_is_judged.ensures.one_list in
     let one_plan = c.words_have_one_plan.ensures.one_plan in
     record {
       one_layout = one_layout laws;
       one_output = λ run other p q has has_too same input told told_too.
-          one_output laws one_page one_plan run other p q has has_too same
-          (same_input laws one_page one_plan run other p q has has_too same input told told_too);
-      one_document = λ run other p q has has_too same input respelled page picture told told_too spells spells_too pictured.
-          one_output laws one_page one_plan run other p q has has_too same
-          (same_spelled laws one_page one_plan run other p q has has_too same input respelled page picture told told_too spells spells_too
-          (c.equal_pictures_are_one_page.ensures.one_page input respelled page picture spells spells_too pictured));
+          one_output laws one_list one_plan run other p q has has_too same
+          (same_input laws one_list one_plan run other p q has has_too same input told told_too);
+      one_document = λ run other p q has has_too same input respelled pages pictures told told_too spells spells_too pictured.
+          one_output laws one_list one_plan run other p q has has_too same
+          (same_spelled laws one_list one_plan run other p q has has_too same input respelled pages pictures told told_too spells spells_too
+          (pictured_pages c.equal_pictures_are_one_page.ensures.one_page input respelled pages pictures spells spells_too pictured));
     }

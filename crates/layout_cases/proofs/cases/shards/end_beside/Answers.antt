@@ -1,5 +1,5 @@
 use Rattle.std.proofs.Common.{ap, ◌∙◌}
-use Rattle.split_frontier.specs.declared.view.View.{View}
+use Rattle.split_frontier.specs.Views.{View}
 use Rattle.split_frontier.specs.Claims.{spent}
 use Rattle.split_frontier.proofs.Working.{only_named_here, none_left}
 use Rattle.layout_cases.proofs.cases.shards.end_beside.Goals as goal

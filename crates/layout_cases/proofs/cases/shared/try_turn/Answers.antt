@@ -1,5 +1,5 @@
 use Rattle.std.proofs.Common.{ap, ◌∙◌, subst, List}
-use Rattle.frontier_turn.specs.declared.view.View.{View}
+use Rattle.frontier_turn.specs.Views.{View}
 use Rattle.std.specs.List.Sorted.{IsPermutation}
 use Rattle.box_search.specs.declared.lease.Entry.{Entry}
 use Rattle.frontier_turn.specs.Holding.{leases_of}
