@@ -61,6 +61,7 @@ def run(*words, given=None, status=0):
 def chromium(folder, *words):
     """Standard output of a headless browser; its profile lies in the folder."""
     quiet = ("--headless", "--no-sandbox", "--disable-gpu", "--disable-dev-shm-usage", "--hide-scrollbars", "--window-size=1400,900")
+    quiet += ("--virtual-time-budget=20000",)  # what a page waits for has come when it is asked
     done = subprocess.run(("chromium", *quiet, f"--user-data-dir={folder}/profile", *words), capture_output=True, timeout=60, check=False)
     return done.stdout.decode()
 

@@ -43,11 +43,11 @@ class Condition:
 
 
 @cache
-def mark_of(program):
-    """Twelve digits that change where layout1 or what prepares its pages does."""
+def mark_of(program, *more):
+    """Twelve digits that change where layout1, what prepares its pages, or one more file of tools/scan does."""
     digest = hashlib.sha256()
     preparing = os.path.join(TOP, "tools", "scan")
-    for file in (program, *(os.path.join(preparing, name) for name in ("leptonica.py", "preparing.py", "transform.py"))):
+    for file in (program, *(os.path.join(preparing, name) for name in ("leptonica.py", "preparing.py", "transform.py", *more))):
         with open(file, "rb") as opened:
             digest.update(opened.read())
     return digest.hexdigest()[:12]
@@ -55,7 +55,7 @@ def mark_of(program):
 
 def layout_of(document, transform=None):
     """The layout that an hOCR document tells."""
-    sheet = sheets_of(document, transform)[0]
+    sheet = sheets_of(document, [transform], 0)[0]
     boxes = [(line.box.x0, line.box.y0, line.box.x1, line.box.y1) for line in sheet.lines]
     return Layout(boxes, [(box.x0, box.y0, box.x1, box.y1) for box in sheet.gutters], bool(sheet.cycle))
 

@@ -34,7 +34,7 @@ def distance(first, second):
 
 def by_tools_ocr(program, page):
     """The text that tools/ocr writes."""
-    folder = os.path.join(page.work, "text", f"ocr@{mark_of(program)}")
+    folder = os.path.join(page.work, "text", f"ocr@{mark_of(program, 'reading.py', 'recognise.py')}")
     file = os.path.join(folder, page.name + ".txt")
     if not os.path.exists(file):
         words = [os.path.join(TOP, "tools", "ocr"), "--no-pdf", "--layout1", program, "-o", folder, page.alone()]

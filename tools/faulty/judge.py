@@ -1,8 +1,8 @@
-"""Judges a short input by docs/DEFINITIONS.md, "The page", without any code of the programs."""
+"""Judges a short input by docs/DEFINITIONS.md, "The page" and "Several pages in one input", without any code of the programs."""
 
 import re
 
-LONGEST_SIDE, MOST_PIXELS, GREATEST_TOLD = 8192, 33_554_432, 999_999_999
+LONGEST_SIDE, MOST_PIXELS, MOST_IMAGES, GREATEST_TOLD = 8192, 33_554_432, 256, 999_999_999
 WHITE = b" \t\r\n"
 GAP = re.compile(rb"(?:[ \t\r\n]|#[^\r\n]*[\r\n])*")
 DIGITS = re.compile(rb"[0-9]*")
@@ -35,12 +35,12 @@ def number(data, at):
     return int(data[start:end]), end
 
 
-def header(data):
-    """The width, the height and where the header ends."""
-    for at, wanted in enumerate((b"P", b"14")):
+def header(data, begins):
+    """The width and the height of the image that begins here, and where its header ends. The first one alone may be plain."""
+    for at, wanted in enumerate((b"P", b"4" if begins else b"14"), begins):
         if at >= len(data) or data[at] not in wanted:
             raise Fault(f"bad page: magic at {at}")
-    width, at = number(data, 2)
+    width, at = number(data, begins + 2)
     height, at = number(data, at)
     if at == len(data):
         raise Fault(f"bad page: truncated at {at}")
@@ -54,19 +54,17 @@ def header(data):
 
 
 def raw_pixels(data, at, width, height):
-    """How many pixels of a raw raster are black."""
+    """How many pixels of a raw raster are black, and where it ends."""
     size = (width + 7) // 8
     end = at + size * height
     if len(data) < end:
         raise Fault(f"bad page: truncated at {len(data)}")
-    if len(data) > end:
-        raise Fault(f"bad page: trailing at {end}")
     mask = (1 << 8 * size) - (1 << 8 * size - width)
-    return sum((int.from_bytes(data[row : row + size], "big") & mask).bit_count() for row in range(at, end, size))
+    return sum((int.from_bytes(data[row : row + size], "big") & mask).bit_count() for row in range(at, end, size)), end
 
 
 def plain_pixels(data, at, width, height):
-    """How many pixels of a plain raster are black."""
+    """How many pixels of a plain raster are black, and where the input ends."""
     black = 0
     for _ in range(width * height):
         found = PIXEL.match(data, at)
@@ -76,15 +74,27 @@ def plain_pixels(data, at, width, height):
         black += data[at - 1] == ord("1")
     if at < len(data) and data[at] not in WHITE:
         raise Fault(f"bad page: trailing at {at}")
-    return black
+    return black, len(data)
+
+
+def pages(data):
+    """The width, the height and the black pixels of each page."""
+    found, at = [], 0
+    while not found or at < len(data):
+        if len(found) == MOST_IMAGES:
+            raise Fault(f"limit: over {MOST_IMAGES} images", 4)
+        width, height, at, begins = *header(data, at), at
+        black, at = (raw_pixels if data[begins + 1] == ord("4") else plain_pixels)(data, at, width, height)
+        found.append((width, height, black))
+    return found
 
 
 def judge(data):
-    """The status that a run on this input has to have, and the line of standard error or the title of the page in the document."""
+    """The status that a run on this input has to have, and the line of standard error, or the titles of the pages in the document."""
     assert len(data) <= 65536, "a long header has faults of its own"
     try:
-        width, height, at = header(data)
-        black = (raw_pixels if data[1:2] == b"4" else plain_pixels)(data, at, width, height)
+        told = pages(data)
     except Fault as fault:
         return fault.status, f"{fault.line}\n".encode()
-    return 0, f"title='bbox 0 0 {width} {height}; ppageno 0; x_black {black}'".encode()
+    titles = (f"title='bbox 0 0 {width} {height}; ppageno {place}; x_black {black}'" for place, (width, height, black) in enumerate(told))
+    return 0, [title.encode() for title in titles]

@@ -17,8 +17,8 @@ enum { PATIENCE = 20, MAP = 65536, ASKED_BY_AFL = 198, ANSWERED_TO_AFL = 199 };
 // One input, and what came of it. `out` has the front of standard output, and `tail` its end.
 struct slot {
     uint32_t length, status, out_length, told_length;
-    char told[112], out[1024], tail[32];
-    char input[4096 - 16 - 112 - 1024 - 32];
+    char told[112], out[16384], tail[32];
+    char input[20480 - 16 - 112 - 16384 - 32];
 };
 
 static struct slot own, *slot = &own;

@@ -11,9 +11,10 @@ from concurrent.futures import ThreadPoolExecutor, as_completed
 from dataclasses import dataclass, replace
 
 from .files import write_whole
-from .inputs import Trouble, files_in, sources_of
+from .inputs import files_in, plain_page, sources_of
 from .leptonica import NoLibrary
-from .trouble import advice, words_of_status
+from .machines import layouts, see_to
+from .trouble import Trouble, advice, words_of_status
 
 MOST_TOLD = 100  # pages that the list at the end names
 PLAIN = re.compile(r"[\t\r\n]")  # what a cell of the log has not
@@ -70,6 +71,8 @@ class Batch:
         """Does it, and answers the exit status."""
         try:
             self.program = find_program(self.plan.layout1)
+            if self.plan.sshlogin:
+                see_to(self.plan.sshlogin)
             os.makedirs(self.plan.output, exist_ok=True)
             self.log.open()
             self.work(self.find_pages())
@@ -160,10 +163,7 @@ class Batch:
     def prepare(self, page):
         """Makes the page's PBM, and answers what was done to it."""
         if self.plan.plain:
-            if page.source.count != 1:
-                raise Trouble("--plain takes PBM pages alone")
-            with open(page.source.file, "rb") as file:
-                write_whole(page.file("pbm"), file.read())
+            write_whole(page.file("pbm"), plain_page(page.source))
             return "as it is"
         words = [sys.executable, os.path.join(TOOLS, "prepare"), "--page", str(page.source.number), "-o", page.file("pbm")]
         if self.plan.without:
@@ -205,19 +205,19 @@ class Batch:
                 process.kill()
 
     def far(self, pages):
-        """The layouts of prepared pages on several machines, by GNU parallel."""
-        command = 'layout1 %s < {} > {.}.part && mv {.}.part {.}.hocr' % " ".join(self.options())
-        words = ["parallel", "--null", "--sshlogin", self.plan.sshlogin, "--transferfile", "{}", "--return", "{.}.hocr", "--cleanup"]
-        names = b"\0".join(os.fsencode(page.file("pbm")) for page in pages)
-        try:
-            subprocess.run([*words, "-j", str(self.plan.jobs), command], input=names, check=False)
-        except FileNotFoundError as fault:
-            raise Trouble("GNU parallel is not there: tools/setup installs it") from fault
-        for page in pages:
-            if page.is_done():
+        """The layouts of prepared pages on several machines."""
+        known = {page.file("pbm"): page for page in pages}
+        for file, answer in layouts(list(known), self.program, self.plan):
+            page = known[file]
+            try:
+                if isinstance(answer, Trouble):
+                    raise answer
+                write_whole(page.file("hocr"), answer)
                 self.done += 1
-            else:
-                self.fail(page.source, "no machine made its document", page.name)
+            except Trouble as fault:
+                self.fail(page.source, str(fault), page.name)
+            except OSError as fault:
+                self.fail(page.source, f"{fault.filename or page.path}: {fault.strerror}", page.name)
 
     def fail(self, source, words, name=""):
         with self.lock:

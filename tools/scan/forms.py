@@ -9,7 +9,9 @@ from jinja2 import Environment, FileSystemLoader
 from .version import VERSION
 
 TEMPLATES = {"alto": "alto.xml", "page": "page.xml", "xhtml": "page.xhtml"}
-FORMS = ("uzn", "alto", "page", "xhtml", "json")
+ENDINGS = {"uzn": "uzn", "alto": "xml", "page": "xml", "xhtml": "xhtml", "json": "json"}
+FORMS = tuple(ENDINGS)
+SINGLE = ("uzn", "page")  # of which a file holds one page
 
 
 def place(box):
@@ -48,8 +50,8 @@ def by_template(form, sheets, picture):
 
 
 def zones(sheets):
-    """Tesseract's zones of the first page, which it reads from NAME.uzn beside NAME.png with --psm 4: one line an area."""
-    return "".join(f"{area.box.x0} {area.box.y0} {area.box.width} {area.box.height} Text\n" for area in sheets[0].areas)
+    """Tesseract's zones of a page, which it reads from NAME.uzn beside NAME.png with --psm 4: one line an area."""
+    return "".join(f"{area.box.x0} {area.box.y0} {area.box.width} {area.box.height} Text\n" for sheet in sheets for area in sheet.areas)
 
 
 def as_json(sheets, picture):
@@ -69,6 +71,7 @@ def as_json(sheets, picture):
     def page_of(sheet):
         return {
             "number": sheet.number,
+            "picture": picture or sheet.picture,
             "width": sheet.width,
             "height": sheet.height,
             "cycle": sheet.cycle,
@@ -77,11 +80,11 @@ def as_json(sheets, picture):
             "whites": [sides(box) for box in sheet.whites],
         }
 
-    return json.dumps({"picture": picture, "pages": [page_of(sheet) for sheet in sheets]}, indent=1, ensure_ascii=False) + "\n"
+    return json.dumps({"picture": picture or sheets[0].picture, "pages": [page_of(sheet) for sheet in sheets]}, indent=1, ensure_ascii=False) + "\n"
 
 
 def written(form, sheets, picture=""):
-    """The pages in this form."""
+    """The pages in this form, a single one in a form that holds one. Where no picture's name is given it is the one that the page tells."""
     if form == "uzn":
         return zones(sheets)
     if form == "json":

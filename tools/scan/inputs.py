@@ -1,18 +1,17 @@
 """The pages of pictures, of PDF files and of folders of them."""
 
 import os
-import re
-import subprocess
 from dataclasses import dataclass
 
 from .leptonica import NoPicture, Picture
+from .netpbm import KINDS, image_at, images_in, simplest
+from .poppler import count_of_pages, drawn, is_pdf
+from .trouble import Trouble
 
+OTHERS = {b"\x89PNG": "a PNG", b"\xff\xd8\xff": "a JPEG", b"II*\0": "a TIFF", b"MM\0*": "a TIFF", b"%PDF-": "a PDF file", b"GIF8": "a GIF"}
+OTHERS.update({b"P2": "a PGM", b"P5": "a PGM", b"P3": "a PPM", b"P6": "a PPM", b"BM": "a BMP"})
 SET_AT = 300  # dots per inch at which a page of a PDF is drawn
 NAMES = (".pdf", ".tif", ".tiff", ".png", ".jpg", ".jpeg", ".pbm", ".pgm", ".ppm", ".pnm", ".bmp", ".gif", ".webp")
-
-
-class Trouble(Exception):
-    """What is wrong with an input, and what helps, in a person's words."""
 
 
 @dataclass(frozen=True)
@@ -32,40 +31,22 @@ class Source:
         return stem if self.count == 1 else f"{stem}-{self.number:0{max(3, len(str(self.count)))}}"
 
 
-def run(words):
-    """What a program writes; raises Trouble with the last line of what it complains of."""
-    try:
-        done = subprocess.run(words, stdin=subprocess.DEVNULL, capture_output=True, check=False)
-    except FileNotFoundError as fault:
-        raise Trouble(f"{words[0]} is not there: tools/setup installs it") from fault
-    if done.returncode != 0:
-        lines = done.stderr.decode(errors="replace").strip().splitlines() or [f"it ended with status {done.returncode}"]
-        raise Trouble(f"{words[0]}: {lines[-1]}")
-    return done.stdout
-
-
-def content_of(file, most=-1):
-    """The bytes of a file, or so many of the first; raises Trouble."""
+def read_by(reader, file):
+    """What a function reads of the opened file; raises Trouble."""
     try:
         with open(file, "rb") as opened:
-            return opened.read(most)
+            return reader(opened)
     except OSError as fault:
         raise Trouble(f"it cannot be read: {fault.strerror}") from fault
 
 
-def is_pdf(content):
-    return content[:1024].lstrip().startswith(b"%PDF-")
+def content_of(file, most=-1):
+    """The bytes of a file, or so many of the first; raises Trouble."""
+    return read_by(lambda opened: opened.read(most), file)
 
 
 def is_tiff(content):
     return content[:4] in (b"II*\0", b"MM\0*")
-
-
-def pages_of_pdf(file):
-    found = re.search(rb"^Pages:\s*(\d+)", run(["pdfinfo", file]), re.MULTILINE)
-    if not found:
-        raise Trouble("pdfinfo tells no number of pages")
-    return int(found.group(1))
 
 
 def sources_of(file):
@@ -74,7 +55,7 @@ def sources_of(file):
     if not head:
         raise Trouble("it is empty")
     if is_pdf(head):
-        count = pages_of_pdf(file)
+        count = count_of_pages(file)
     elif is_tiff(head):
         count, content = 0, content_of(file)
         while Picture.read_tiff_page(content, count):
@@ -82,23 +63,40 @@ def sources_of(file):
         if count == 0:
             raise Trouble("it begins as a TIFF and has no page that can be read: save it again")
     else:
-        count = 1
+        count = len(read_by(images_in, file)) or 1
     return [Source(file, number + 1, count) for number in range(count)]
+
+
+def image_of(source):
+    """The bytes of a picture, those of the other images of a file of raw Netpbm images left out; raises Trouble."""
+    try:
+        return read_by(lambda opened: image_at(opened, source.number - 1), source.file)
+    except IndexError as fault:
+        raise Trouble(f"it has no page {source.number}") from fault
+
+
+def plain_page(source):
+    """The bytes of a PBM page as they are; raises Trouble."""
+    content = image_of(source)
+    kind = next((told for front, told in OTHERS.items() if content.startswith(front)), None)
+    if kind:
+        raise Trouble(f"it is {kind}, and --plain takes PBM pages alone: leave --plain out")
+    return content
 
 
 def picture_of(source):
     """The picture of a page, and its dots per inch where they are known, or 0; raises Trouble."""
-    content = content_of(source.file)
+    content = image_of(source)
     if is_pdf(content):
-        number = str(source.number)
-        drawn = run(["pdftoppm", "-gray", "-r", str(SET_AT), "-f", number, "-l", number, source.file])
-        return read_picture(drawn), SET_AT
+        return read_picture(drawn(source.file, source.number, "-gray", "-r", str(SET_AT))), SET_AT
     if is_tiff(content):
         picture = Picture.read_tiff_page(content, source.number - 1)
         if picture is None:
             raise Trouble(f"it has no page {source.number} that can be read")
         return picture, 0
-    return read_picture(content), 0
+    if source.number > 1 and content_of(source.file, 2) not in KINDS:
+        raise Trouble(f"it has no page {source.number}")
+    return read_picture(simplest(content)), 0
 
 
 def read_picture(content):

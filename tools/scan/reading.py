@@ -6,7 +6,7 @@ from dataclasses import dataclass, field
 
 sys.path.insert(0, os.path.dirname(os.path.dirname(os.path.realpath(__file__))))
 
-from viewer.document import LINE_CLASSES, Box, NotHocr, read_page  # noqa: E402
+from viewer.document import LINE_CLASSES, Box, NotHocr, chosen, read_pages  # noqa: E402
 
 
 @dataclass
@@ -45,9 +45,11 @@ class Area:
 
 @dataclass
 class Sheet:
-    """A page: its number, its size in pixels, and its areas in reading order, or by numbers where there is none."""
+    """A page: its number, the name of its picture where the document tells one, its size in pixels, and its areas in reading order, or by
+    numbers where there is none."""
 
     number: int
+    picture: str
     width: int
     height: int
     areas: list
@@ -100,15 +102,18 @@ def sheet_of(page, transform=None):
         elif element.hocr_class == "ocr_separator":
             gutters.append(box)
     width, height = (page.box.width, page.box.height) if transform is None else (transform.width, transform.height)
-    return Sheet(page.number, width, height, [area for area in areas if area.lines], gutters, whites, page.cycle)
+    picture = page.properties.get("image", "").strip("\"'")
+    return Sheet(page.number, picture, width, height, [area for area in areas if area.lines], gutters, whites, page.cycle)
 
 
-def sheets_of(text, transform=None):
-    """All pages of a document; raises NotHocr."""
-    sheets = [sheet_of(read_page(text, 0), transform)]
-    while True:
-        try:
-            page = read_page(text, len(sheets))
-        except NotHocr:
-            return sheets
-        sheets.append(sheet_of(page, transform))
+def sheets_of(text, transforms=(), place=None):
+    """All pages of a document, or the one at this place, from 0; with transforms, one a page, as they lie on the pages that came in.
+    A single transform may also be that of the one page that is wanted. Raises NotHocr, and ValueError where they are too many or too few."""
+    pages = read_pages(text)
+    if len(transforms) == len(pages):
+        pairs = list(zip(pages, transforms))
+    elif len(transforms) > 1 or transforms and place is None:
+        raise ValueError(f"there are transforms of {len(transforms)} page(s), and the document has {len(pages)}")
+    else:
+        pairs = [(page, *(transforms or [None])) for page in pages]
+    return [sheet_of(*pair) for pair in (pairs if place is None else [chosen(pairs, place)])]

@@ -3,12 +3,15 @@
 import os
 import re
 import subprocess
+from collections import defaultdict
 
 from .forms import written
-from .inputs import Trouble
 from .reading import Area, Box, Line, sheets_of
+from .trouble import Trouble
 
 LEAST_OVERLAP = 0.5  # of the lesser height: a word that shares this many rows with a line may be of it
+MOST_SHARED = 0.5  # of the lesser box: two that share more are one word that was read twice
+ROW = 64  # pixels: words are looked for in strips of this height
 MOST_GAP = 3  # heights of a line: a word that stands no farther off may be of it
 
 
@@ -58,6 +61,26 @@ def around(boxes):
     return Box(min(b.x0 for b in boxes), min(b.y0 for b in boxes), max(b.x1 for b in boxes), max(b.y1 for b in boxes))
 
 
+def are_one(first, second):
+    """Whether two boxes are those of one word: they share most of the lesser."""
+    across, down = shared(first.x0, first.x1, second.x0, second.x1), shared(first.y0, first.y1, second.y0, second.y1)
+    return across * down > MOST_SHARED * min(first.width * first.height, second.width * second.height)
+
+
+def once(areas):
+    """The identities of the words but for those that were read twice, where two areas overlap: of two in one place the surer stays."""
+    words = [(word, area) for area in areas for line in area.lines for word in line.words if word.text.strip()]
+    kept, rows = set(), defaultdict(list)
+    for word, area in sorted(words, key=lambda pair: -(pair[0].sure or 0)):
+        its_rows = range(word.box.y0 // ROW, word.box.y1 // ROW + 1)
+        others = (other for row in its_rows for other, its_area in rows[row] if its_area is not area)
+        if not any(are_one(word.box, other.box) for other in others):
+            kept.add(id(word))
+            for row in its_rows:
+                rows[row].append((word, area))
+    return kept
+
+
 def area_for(line, areas):
     """The area in which a line of tesseract's lies for the most part, or None."""
     def part(area):
@@ -73,8 +96,9 @@ def with_words(sheet, read):
     lines = sheet.lines
     for line in lines:
         line.words = []
-    for found in (line for area in read.areas for line in area.lines):
-        words = [word for word in found.words if word.text.strip()]
+    kept = once(read.areas)
+    for found in read.lines:
+        words = [word for word in found.words if id(word) in kept]
         rest = []
         for word, line in zip(words, places(words, lines)):
             (line.words if line else rest).append(word)
@@ -92,6 +116,14 @@ def with_words(sheet, read):
     return sheet
 
 
+def numbered(sheet, number):
+    """The page as one of several: it has this number, which stands in each id in place of that of the only page of a document."""
+    sheet.number = number
+    for named in (*sheet.areas, *sheet.lines, *(word for line in sheet.lines for word in line.words)):
+        named.id = re.sub(r"\d+", str(number), named.id, count=1)
+    return sheet
+
+
 def text_of(sheet):
     """The text in reading order: a line of print a line, an empty one between areas."""
     areas = ("\n".join(line.text for line in area.lines if line.text) for area in sheet.areas)
@@ -100,7 +132,7 @@ def text_of(sheet):
 
 def recognised(document, transform, picture, stem, language):
     """The page of the document, on the picture that came in, with its words. STEM.png is the picture's file."""
-    sheet = sheets_of(document, transform)[0]
+    sheet = sheets_of(document, [transform])[0]
     if not sheet.areas:
         return sheet
     with open(stem + ".uzn", "w", encoding="ascii") as file:

@@ -55,17 +55,21 @@ class Transform:
         right, bottom = math.ceil(across[-1] - slack), math.ceil(down[-1] - slack)
         return left, top, max(right, left + 1), max(bottom, top + 1)
 
-    def text(self):
-        """As JSON, which `read` reads."""
-        return json.dumps(asdict(self), indent=1) + "\n"
 
-    @classmethod
-    def read(cls, text):
-        """The transform that the text tells; raises ValueError where it tells none."""
-        try:
-            found = json.loads(text)
-        except ValueError as fault:
-            raise ValueError(f"it is no transform that tools/prepare wrote: {fault}") from fault
-        if not isinstance(found, dict) or {"width", "height", "a", "b", "c", "d", "e", "f"} - set(found):
-            raise ValueError("it is no transform that tools/prepare wrote")
-        return cls(**{name: found[name] for name in cls.__dataclass_fields__})
+def text_of(transforms, is_list):
+    """As JSON, which `transforms_in` reads: one transform, or a list of one for each page."""
+    told = [asdict(transform) for transform in transforms]
+    return json.dumps(told if is_list else told[0], indent=1) + "\n"
+
+
+def transforms_in(text):
+    """The transforms that the text tells, one for each page; raises ValueError where it tells none."""
+    try:
+        found = json.loads(text)
+    except ValueError as fault:
+        raise ValueError(f"it is no transform that tools/prepare wrote: {fault}") from fault
+    names = Transform.__dataclass_fields__
+    every = found if isinstance(found, list) else [found]
+    if not every or not all(isinstance(one, dict) and names.keys() <= one.keys() for one in every):
+        raise ValueError("it is no transform that tools/prepare wrote")
+    return [Transform(**{name: one[name] for name in names}) for one in every]

@@ -4,11 +4,17 @@ import os
 import re
 import sys
 
+
+class Trouble(Exception):
+    """What is wrong with an input, and what helps, in a person's words."""
+
+
 HELP = {
     3: "make the page again",
     5: "look at the disk or the pipe, and run again",
     6: "the disk is full or the folder cannot be written",
     7: "there was not enough memory: fewer at a time (-j)",
+    127: "layout1 is not on the path of that machine",
 }
 
 
@@ -33,7 +39,7 @@ def advice(status, line):
 
 
 def ended(name, main, words):
-    """The status of a run, with all that it told written; a run that is broken off, or cannot write, says so in a line."""
+    """The status of a run, with all that it told written; a run that is broken off, lacks a module, or cannot write says so in a line."""
     try:
         status = main(words)
         sys.stdout.flush()
@@ -41,6 +47,10 @@ def ended(name, main, words):
     except KeyboardInterrupt:
         print(f"\n{name}: broken off", file=sys.stderr)
         return 130
+    except ModuleNotFoundError as fault:
+        package = {"PIL": "python3-pil"}.get(fault.name, f"python3-{fault.name}")
+        print(f"{name}: {sys.executable} has no {fault.name}, which Debian's package {package} brings: run tools/setup", file=sys.stderr)
+        return 1
     except OSError as fault:
         print(f"{name}: {fault.filename or 'standard output'}: {fault.strerror}", file=sys.stderr)
         # What is left for standard output cannot be written either.

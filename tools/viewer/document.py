@@ -71,6 +71,7 @@ class Page:
     """A page of the document: its box, its own properties, and its elements in the document's order."""
 
     number: int
+    id: str
     box: Box
     properties: dict
     elements: list
@@ -117,23 +118,24 @@ def metadata(root, name):
     return [node.get("content") or "" for node in root.iter("meta") if node.get("name") == name]
 
 
-def cycle_of(root, number):
-    """The ids of the lines of the cycle that `layout-order` tells for this page, if any."""
+def cycles_of(root):
+    """By the numbers of the pages whose `layout-order` tells a cycle, the ids of the lines of it."""
+    cycles = {}
     for content in metadata(root, "layout-order"):
         words = content.split()
-        if words[:2] == [str(number), "cycle"]:
-            return [f"line_{number}_{word}" for word in words[2:]]
-    return []
+        if words[1:2] == ["cycle"]:
+            cycles[words[0]] = [f"line_{words[0]}_{line}" for line in words[2:]]
+    return cycles
 
 
-def element_of(node, hocr_class, properties, box, place):
-    """The element of a node; one without an id is given one by its place."""
+def element_of(node, hocr_class, properties, box, places):
+    """The element of a node; one without an id is given one by the places of its page and of itself."""
     text = " ".join("".join(node.itertext()).split()) if hocr_class == "ocrx_word" else ""
     areas = (outer.get("id") or "" for outer in node.iterancestors() if class_of(outer) == "ocr_carea")
-    return Element(node.get("id") or f"{hocr_class}-{place}", hocr_class, box, properties, text, next(areas, ""))
+    return Element(node.get("id") or "-".join(map(str, (hocr_class, *places))), hocr_class, box, properties, text, next(areas, ""))
 
 
-def elements_of(page_node):
+def elements_of(page_node, page_place):
     """All elements with boxes below a page, in the document's order."""
     elements = []
     for node in page_node.iterdescendants(etree.Element):
@@ -143,12 +145,24 @@ def elements_of(page_node):
         properties = properties_of(node.get("title"))
         box = box_of(properties)
         if box is not None:
-            elements.append(element_of(node, hocr_class, properties, box, len(elements)))
+            elements.append(element_of(node, hocr_class, properties, box, (page_place, len(elements))))
     return elements
 
 
-def read_page(text, place=0):
-    """The page at this place (from 0) of the hOCR document that the bytes spell; raises NotHocr."""
+def page_of(node, place, cycles, system):
+    """The page of a node, which stands at this place, from 0; raises NotHocr."""
+    properties = properties_of(node.get("title"))
+    box = box_of(properties)
+    if box is None:
+        raise NotHocr(f"its page at place {place}, counted from 0, has no bbox")
+    numbers = numbers_of(properties.get("ppageno", ""))
+    number = int(numbers[0]) if numbers else place
+    name = node.get("id") or f"page-{place}"
+    return Page(number, name, box, properties, elements_of(node, place), cycles.get(str(number), []), system)
+
+
+def read_pages(text):
+    """All pages of the hOCR document that the bytes spell, one at least; raises NotHocr."""
     try:
         root = html.fromstring(text)
     except (etree.ParserError, etree.XMLSyntaxError, ValueError) as fault:
@@ -156,15 +170,14 @@ def read_page(text, place=0):
     nodes = [node for node in root.iter(etree.Element) if class_of(node) == "ocr_page"]
     if not nodes:
         raise NotHocr("no element in it has the class ocr_page")
-    if place >= len(nodes):
-        raise NotHocr(f"it has {len(nodes)} page(s), counted from 0, and page {place} was asked for")
-    system = next(iter(metadata(root, "ocr-system")), "")
     if not text.rstrip().lower().endswith(b"</html>"):
         raise NotHocr("it does not end with </html>: it was cut off")
-    properties = properties_of(nodes[place].get("title"))
-    box = box_of(properties)
-    if box is None:
-        raise NotHocr("its page has no bbox")
-    numbers = numbers_of(properties.get("ppageno", ""))
-    number = int(numbers[0]) if numbers else place
-    return Page(number, box, properties, elements_of(nodes[place]), cycle_of(root, number), system)
+    cycles, system = cycles_of(root), next(iter(metadata(root, "ocr-system")), "")
+    return [page_of(node, place, cycles, system) for place, node in enumerate(nodes)]
+
+
+def chosen(pages, place):
+    """The page at this place, from 0; raises NotHocr."""
+    if not 0 <= place < len(pages):
+        raise NotHocr(f"it has {len(pages)} page(s), counted from 0, and page {place} was asked for")
+    return pages[place]
