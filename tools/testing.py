@@ -13,7 +13,6 @@ import traceback
 TOOLS = os.path.dirname(os.path.realpath(__file__))
 TOP = os.path.dirname(TOOLS)
 PACKAGES = {name: f"python3-{name.lower()}" for name in ("lxml", "PIL", "jinja2", "cairosvg", "numpy")}
-SMALL_DISK = ("unshare", "--map-root-user", "--mount")  # a view of the file system in which a small one may be mounted
 VIEW, PREPARE, PAGES, TO, OCR = (os.path.join(TOOLS, name) for name in ("view", "prepare", "pages", "to", "ocr"))
 CASES = []
 
@@ -43,9 +42,6 @@ def missing(need):
         return None if shutil.which(need) and opens() else "no chromium that starts"
     if need == "leptonica":
         return None if ctypes.util.find_library("lept") else "libleptonica-dev is not installed"
-    if need == "a small disk":
-        tried = subprocess.run([*SMALL_DISK, "mount", "-t", "tmpfs", "none", "/mnt"], capture_output=True, check=False)
-        return None if tried.returncode == 0 else "nothing can be mounted here"
     if need == "ocrmypdf":
         return None if importlib.util.find_spec(need) else "ocrmypdf is not installed"
     return None if shutil.which(need) else f"{need} is not installed"

@@ -67,7 +67,8 @@ def layouts(pages, program, plan):
     options = "" if plan.rects is None else f"--rects {plan.rects}"
     folder, shows = plan.output, not plan.quiet and sys.stderr.isatty()
     words = [*words_of(plan.sshlogin, plan.jobs, shows), COMMAND.format(options=options)]
-    environment = {**os.environ, "PATH": os.path.dirname(os.path.abspath(program)) + os.pathsep + os.environ.get("PATH", os.defpath)}
+    path = os.path.dirname(os.path.abspath(program)) + os.pathsep + os.environ.get("PATH", os.defpath)
+    environment = {**os.environ, "PATH": path, "PARALLEL_SHELL": "/bin/sh"}  # the command is sh's, whatever shell its user has
     with tempfile.TemporaryDirectory(prefix=".part-", dir=folder) as inside:
         stems = [os.path.join(inside, str(number)) for number in range(len(pages))]
         for page, stem in zip(pages, stems):
