@@ -42,30 +42,16 @@ opposite_rank (negsuc a) (negsuc b) same less = omega (arith, ints)
 pub place_low : (b : ℤ) → IsOffset b → unsigned_abs (b +ℤ pos OFFSET_MARGIN) ≤ MAX_PLACE
 place_low b in_offsets = omega (arith, ints, abs_parts (b +ℤ pos OFFSET_MARGIN), in_offsets.low, in_offsets.high)
 
+-- an offset's place is the offset moved up by the margin
+shifted : (b : ℤ) → IsOffset b → pos (unsigned_abs (b +ℤ pos OFFSET_MARGIN)) ≡ b +ℤ pos OFFSET_MARGIN
+shifted b in_offsets = omega (arith, ints, abs_parts (b +ℤ pos OFFSET_MARGIN), in_offsets.low)
+
 same_place : (b b' : ℤ) → IsOffset b → IsOffset b' → unsigned_abs (b +ℤ pos OFFSET_MARGIN) ≡ unsigned_abs (b' +ℤ pos OFFSET_MARGIN) → b ≡ b'
-same_place b b' h h' e = omega (
-  arith,
-  ints,
-  abs_parts (b +ℤ pos OFFSET_MARGIN),
-  abs_parts (b' +ℤ pos OFFSET_MARGIN),
-  h.low,
-  h.high,
-  h'.low,
-  h'.high,
-)
+same_place b b' h h' e = omega (arith, ints, shifted b h, shifted b' h', e)
 
 lower_place : (b b' : ℤ) → IsOffset b → IsOffset b' → b <ℤ b'
     → unsigned_abs (b +ℤ pos OFFSET_MARGIN) < unsigned_abs (b' +ℤ pos OFFSET_MARGIN)
-lower_place b b' h h' less = omega (
-  arith,
-  ints,
-  abs_parts (b +ℤ pos OFFSET_MARGIN),
-  abs_parts (b' +ℤ pos OFFSET_MARGIN),
-  h.low,
-  h.high,
-  h'.low,
-  h'.high,
-)
+lower_place b b' h h' less = omega (arith, ints, shifted b h, shifted b' h', less)
 
 -- three digits within their limits
 record AreDigits (d r b : ℕ) : Type 0 where

@@ -1,13 +1,12 @@
-//! A page that was given its rows is held, as runs, and a reader goes no farther than its sink.
+//! A page that was given its rows is held, as runs.
 ghost use Rattle.std.specs.Prelude.{◌≡◌, ◌<◌, ◌+◌, OnOk, length};
 ghost use Rattle.packed_rows.specs.Page.{row_len};
 ghost use Rattle.page_runs.specs.Packed.{page_of, rows_of};
 
 use crate::{Run, RunPage, given_page_is_held};
 use layout_limits::OutOfMemory;
-use layout_outside::MemSource;
 use packed_rows::clear_padding;
-use pbm_reader::{PageFault, RowSink, read_page};
+use pbm_reader::RowSink;
 use std::process::Abort;
 use std::test::Fail;
 
@@ -89,61 +88,5 @@ fn a_row_of_single_pixels(rt: HostRuntime) -> Result<(), Fail> {
     push(&mut page, &mut [0xAA; 1024])?;
     assert_eq!(rt; page.row(0).len(), 4096);
     assert_eq!(rt; page.black(), 4096);
-    Ok(())
-}
-
-// Has memory for three rows.
-#[derive(Drop)]
-struct ThreeRows {
-    width: u16,
-    left: u16,
-    given: u16,
-}
-
-impl RowSink for ThreeRows {
-    ghost use Rattle.std.specs.Prelude.{◌≡◌, ℕ, List};
-
-    ghost width_of = { λ s. s.width };
-
-    ghost rows_left = { λ s. s.left };
-
-    ghost begun = { λ _ _ _ _. Unit {0} };
-
-    ghost given = { λ _ _ _. Unit {0} };
-
-    ghost unchanged = { λ old new. (new.width ≡ old.width) × (new.left ≡ old.left) };
-
-    fn begin(&mut self, width: u16, height: u16) -> Result<(), OutOfMemory> {
-        self.width = width;
-        self.left = height;
-        self.given = 0;
-        Ok(())
-    }
-
-    fn row(&mut self, _bits: &[u8]) -> Result<(), OutOfMemory> {
-        if self.given == 3 {
-            return Err(OutOfMemory);
-        }
-        self.given = self.given.saturating_add(1);
-        self.left -= 1;
-        Ok(())
-    }
-}
-
-/// A raster of 200 rows of 1,000 bytes, of which the sink refuses the fourth.
-#[test]
-fn a_row_that_is_refused_ends_the_reading_soon(rt: HostRuntime) -> Result<(), Fail> {
-    let mut input = b"P4\n8000 200\n".to_vec(rt.alloc())?;
-    input.resize(200_012, 0x55)?;
-    let mut src = MemSource::new(input, 1, Vec::new(rt.alloc()));
-    let mut rows = ThreeRows {
-        width: 0,
-        left: 0,
-        given: 0,
-    };
-    let result = read_page(rt.alloc(), &mut src, &mut rows);
-    assert!(rt; matches!(result, Err(PageFault::Memory)));
-    assert_eq!(rt; rows.given, 3);
-    assert!(rt; src.at <= 12 + 4_000 + 65_536);
     Ok(())
 }

@@ -413,3 +413,17 @@ fn the_laws_can_be_called() {
     each_input_is_judged();
     equal_pictures_are_one_page();
 }
+
+/// A raster of 200 rows of 1,000 bytes, of which the sink refuses the fourth.
+#[test]
+fn a_row_that_is_refused_ends_the_reading_soon(rt: HostRuntime) -> Result<(), Fail> {
+    let mut input = b"P4\n8000 200\n".to_vec(rt.alloc())?;
+    input.resize(200_012, 0x55)?;
+    let mut src = MemSource::new(input, 1, Vec::new(rt.alloc()));
+    let mut rows = Rows::new(rt.alloc(), 3);
+    let result = read_page(rt.alloc(), &mut src, &mut rows);
+    assert!(rt; matches!(result, Err(PageFault::Memory)));
+    assert_eq!(rt; rows.given, 3);
+    assert!(rt; src.at <= 12 + 4_000 + 65_536);
+    Ok(())
+}

@@ -3,7 +3,7 @@ ghost use Rattle.std.specs.Prelude.{◌≡◌, ℕ, ◌<◌, ◌≤◌, ◌^◌,
 ghost use Rattle.reading_order.specs.Tables.{Marks};
 ghost use Rattle.reading_order.specs.Steps.{AreSteps, AreAtLeast, HasNext, IsLeastNext};
 ghost use Rattle.reading_order.specs.Cycles.{IsCycle, IsLeastCycle, AreOnNone};
-ghost use Rattle.reading_order.specs.Groups.{AreClosed};
+ghost use Rattle.reading_order.specs.Groups.{AreClosed, AreFlaggedOrOnRings};
 
 use crate::groups::flag_groups;
 use crate::steps::steps_to;
@@ -86,7 +86,22 @@ fn least_unflagged(flags: &[bool]) -> usize
     unreachable!()
 }
 
-/// The least cycle, where the numbers that were taken are on none: it starts at the least number that is on any.
+/// The least cycle, where exactly the numbers on no cycle are flagged: it starts at the least number that is not.
+fn cycle_among(alloc: Global, before: &Table, on_none: &[bool]) -> Result<Numbers, OutOfMemory>
+    requires small { before.now.side < 2 ^ 32 }
+    requires count { length on_none.now ≡ before.now.side }
+    requires none { AreOnNone (Marks before.now) before.now.side on_none.now }
+    requires rings { AreFlaggedOrOnRings before.now on_none.now }
+    requires cycle { (cycle : List ℕ) × IsCycle (Marks before.now) before.now.side cycle }
+    ensures { IfOk result (IsLeastCycle (Marks before.now) before.now.side) }
+{
+    let start = least_unflagged(on_none);
+    let steps = steps_to(alloc, before, start)?;
+    let whole = least_steps(before, start, &steps);
+    cycle_through(alloc, before, start, &steps, whole)
+}
+
+/// The least cycle, where the numbers that were taken are on none.
 pub(crate) fn least_cycle(
     alloc: Global,
     before: &Table,
@@ -101,8 +116,5 @@ pub(crate) fn least_cycle(
 {
     let mut on_none = taken;
     flag_groups(alloc, before, &mut on_none)?;
-    let start = least_unflagged(&on_none);
-    let steps = steps_to(alloc, before, start)?;
-    let whole = least_steps(before, start, &steps);
-    cycle_through(alloc, before, start, &steps, whole)
+    cycle_among(alloc, before, &on_none)
 }

@@ -26,6 +26,16 @@ impl Outcome {
             && self.out.as_slice() == other.out.as_slice()
             && self.err.as_slice() == other.err.as_slice()
     }
+
+    /// Whether the run wrote this document and told nothing.
+    pub(super) fn is_document(&self, text: &[u8]) -> bool {
+        self.status == 0 && self.err.calls == 0 && self.out.as_slice() == text
+    }
+
+    /// Whether the run ended with this status and this line, and wrote no document.
+    pub(super) fn is_refusal(&self, status: u8, line: &[u8]) -> bool {
+        self.status == status && self.err.as_slice() == line && self.out.calls == 0
+    }
 }
 
 /// The input of a run, and its devices: they move at most a piece in a call, and the source fails at the calls with these numbers.

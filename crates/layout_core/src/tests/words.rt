@@ -28,10 +28,7 @@ const USAGE_SHARED: &[u8] =
 
 // Whether a run ended for its words: nothing was read or written but the line.
 fn is_for_words(outcome: &Outcome, line: &[u8]) -> bool {
-    outcome.status == 2
-        && outcome.reads == 0
-        && outcome.out.calls == 0
-        && outcome.err.as_slice() == line
+    outcome.reads == 0 && outcome.is_refusal(2, line)
 }
 
 #[test]
