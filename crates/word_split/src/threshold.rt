@@ -32,8 +32,8 @@ fn total(gaps: &[u16]) -> u64
     gaps.iter().map(|gap| u64::from(*gap)).sum()
 }
 
-/// The parting of rising gaps by the threshold that so many of them reach, where the next gap is wider. Their sum and the sum of all
-/// gaps are given, in columns.
+/// The parting of rising gaps whose first `count` are narrow: the last of these is the threshold, and the next gap is wider. The sum
+/// of the narrow ones and that of all are given, in columns.
 fn parting_at(rising: &[u16], count: usize, narrow_sum: u64, total: u64) -> Parting
     requires rises { IsNonDecreasing rising.now }
     requires few { length rising.now < MAX_MEMBERS }
