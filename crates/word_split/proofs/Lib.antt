@@ -1,0 +1,10 @@
+mod Gathered
+mod Widths
+mod Rounds
+mod Moved
+mod Cuts
+mod Best
+mod Chosen
+mod Found
+mod Ordered
+mod Unique
