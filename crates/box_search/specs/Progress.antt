@@ -1,12 +1,25 @@
 -- How far a search came.
-use Rattle.std.specs.Prelude.{◌≡◌, ℕ, zero, suc, ◌<◌, ◌≤◌, ◌⊎◌, List, [], ◌∷◌, ◌++◌, length, Any, Option}
+use Rattle.std.specs.Prelude.{◌≡◌, ℕ, zero, suc, ◌<◌, ◌≤◌, ◌⊎◌, List, [], ◌∷◌, ◌++◌, length, Any, Option, ⊤}
 use Rattle.std.specs.List.Sorted.{IsPermutation}
 use Rattle.std.specs.Option.{option_to_list}
 use Rattle.box_search.specs.declared.space.Shape.{Shape}
 use Rattle.box_search.specs.declared.space.Node.{Node}
+use Rattle.box_search.specs.declared.alone.HeadStart.{HeadStart}
+use Rattle.box_search.specs.declared.alone.HeadStart.TheVariants.{Ended, Open}
 use Rattle.box_search.specs.Leasing.{above}
 use Rattle.box_search.specs.Search.{IsRootOf, Splits}
 use Rattle.box_search.specs.Shapes.{size}
+
+module _ {W : Type 0} where
+  -- where the search ended, this holds of its key
+  abbrev pub IfEnded : HeadStart W → (ℕ → Type 0) → Type 0
+  IfEnded (Ended key) Holds = Holds key
+  IfEnded (Open nodes) Holds = ⊤
+
+  -- where it did not end, this holds of the nodes that are open
+  abbrev pub IfOpen : HeadStart W → (List (Node W) → Type 0) → Type 0
+  IfOpen (Ended key) Holds = ⊤
+  IfOpen (Open nodes) Holds = Holds nodes.items
 
 module _ {W : Type 0} (admits : ℕ → Type 0) (lies_in : ℕ → Shape → Type 0) (fits : Node W → Type 0) where
   -- each admitted key of the shape lies in a smaller one of these nodes
@@ -28,10 +41,9 @@ module _ {W : Type 0} (admits : ℕ → Type 0) (lies_in : ℕ → Shape → Typ
   ComesTo zero nodes = (root : Option (Node W)) × IsRootOf admits lies_in fits root × (nodes ≡ option_to_list root)
   ComesTo (suc boxes) nodes = (before : List (Node W)) × ComesTo boxes before × OpensBox before nodes
 
-  -- it has opened at least so many boxes, and a node is still open
-  pub record IsUnfinishedAfter (boxes : ℕ) : Type 0 where
+  -- it has opened at least so many boxes, and these nodes are still open, one at least
+  pub record IsUnfinishedAfter (boxes : ℕ) (open_nodes : List (Node W)) : Type 0 where
     pub count : ℕ
     pub enough : boxes ≤ count
-    pub open_nodes : List (Node W)
     pub comes_to : ComesTo count open_nodes
     pub unfinished : 0 < length open_nodes

@@ -156,6 +156,18 @@ impl<W: Drop> Frontier<W> {
         remove_number(&mut self.leased, ended);
     }
 
+    /// The open nodes, which leave the frontier. It takes memory.
+    pub fn into_nodes(self, alloc: Global) -> Result<Vec<Node<W>>, OutOfMemory>
+        ensures nodes { IfOk result (λ nodes. nodes.items ≡ self.open_nodes) }
+    {
+        let Frontier { open, leased: _ } = self;
+        let mut nodes = Vec::with_capacity(alloc, open.len())?;
+        for Open { bound, shape, work } in open.into_vec() {
+            nodes.push(Node { shape, bound, work })?;
+        }
+        Ok(nodes)
+    }
+
     /// How many nodes are open.
     pub fn waiting(&self) -> u64
         ensures open { result ≡ length self.now.open_nodes }

@@ -7,7 +7,7 @@ ghost use Rattle.layout_core.specs.Status.{Runs, change};
 
 use crate::job::{Job, Searchers, Streams, lay_out, plan_of};
 use crate::refusal::refuse;
-use box_search::{Alone, FromFn, Searcher, Space};
+use box_search::{Alone, FromFn, HeadStart, Searcher, Space};
 use command_words::Program;
 use layout_limits::{MAX_WORKERS, OutOfMemory};
 use layout_outside::{Sink, Source};
@@ -18,12 +18,12 @@ use std::sync::Wait;
 use std::thread::Threads;
 use whitespace_cover::White;
 
-/// How many boxes of a search are opened before workers are asked for. Most searches of a page end sooner, and to begin
-/// threads and join them costs more than such a search.
-const HEAD_START: u32 = 200;
+/// How many boxes of a search are opened before workers are asked for. The searches of an ordinary page end sooner, and to
+/// begin threads and join them costs more than such a search.
+const HEAD_START: u32 = 4_000;
 
 /// The greatest admitted key, or 0 exactly where no key is admitted: found on this thread where it is to be one worker or
-/// where that takes few boxes, and else by workers, who begin anew.
+/// where that takes few boxes, and else by workers, who go on from the boxes that are open then.
 fn best_of<S: Space, R: Threads + Wait + Sync, G: Gate>(
     alloc: Global,
     rt: &R,
@@ -38,8 +38,8 @@ fn best_of<S: Space, R: Threads + Wait + Sync, G: Gate>(
         return Alone.best(alloc, space);
     }
     match Alone.best_within(alloc, space, HEAD_START)? {
-        Some(key) => Ok(key),
-        None => Workers::new(count, gate).best(alloc, rt, space),
+        HeadStart::Ended(key) => Ok(key),
+        HeadStart::Open(nodes) => Workers::new(count, gate).best_from(alloc, rt, space, nodes),
     }
 }
 

@@ -96,19 +96,15 @@ impl<'a, 's, S: Space, R: Wait, G: Gate> Crew<'a, 's, S, R, G> {
         }
     }
 
-    /// The shard of the worker that is so many behind the one with this shard, round the end, and shard 0 behind all: the
-    /// root stands there.
+    /// The shard of the worker that is so many behind the one with this shard, round the end.
     fn shard_behind(&self, own: u32, others: u32) -> u32
         requires own { own < self.now.count }
         ensures there { result < self.now.count }
     {
-        if others == self.workers {
-            return 0;
-        }
         own.wrapping_add(others.wrapping_mul(self.stride)) % self.count
     }
 
-    /// Goes round the shards of the workers, its own first, and that of the root, until one has a node to lease.
+    /// Goes round the shards of the workers, its own first, until one has a node to lease.
     pub(crate) fn go_round(
         &self,
         worker: &mut Worker,
@@ -123,7 +119,7 @@ impl<'a, 's, S: Space, R: Wait, G: Gate> Crew<'a, 's, S, R, G> {
         let own = worker.own;
         let mut mine = pass;
         let mut busy = false;
-        for others in 0..self.workers.saturating_add(1) {
+        for others in 0..self.workers {
             let shard = self.shard_behind(own, others);
             let (take, after) = self.look_at(worker, mine, shard, manner);
             mine = after;

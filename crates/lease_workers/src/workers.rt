@@ -2,13 +2,13 @@
 ghost use Rattle.std.specs.Prelude.{◌≡◌, ◌+◌, ◌≤◌, [], IfOk};
 ghost use Rattle.std.specs.Thread.{IsSync};
 ghost use Rattle.layout_limits.specs.declared.TheConstants.{MAX_WORKERS};
-ghost use Rattle.box_search.specs.Search.{IsSound, IsGreatestKey};
+ghost use Rattle.box_search.specs.Search.{CoverAll, IsSound, IsGreatestKey};
 ghost use Rattle.split_frontier.specs.Callers.{IsOwn};
 
 use crate::crew::Crew;
 use crate::gate::Gate;
 use crate::working::Ended;
-use box_search::Space;
+use box_search::{Node, Space, beginning};
 use crossbeam_utils::sync::EventCount;
 use frontier_turn::{Closed, DividesPasses};
 use layout_limits::{MAX_WORKERS, OutOfMemory};
@@ -75,10 +75,27 @@ impl<'g, R: Threads + Wait + Sync, G: Gate> Workers<'g, R, G> {
         ensures sound { IfOk result (λ closed. IsSound (S.admits (S.problem space.now)) closed.word) }
         ensures greatest { IfOk result (λ closed. closed.waiting ≡ 0 → IsGreatestKey (S.admits (S.problem space.now)) closed.word) }
     {
+        let nodes = beginning(alloc, space)?;
+        self.run_from(alloc, run, space, nodes)
+    }
+
+    /// Searches as `run` does, from nodes in which every admitted key lies.
+    fn run_from<S: Space>(
+        &mut self,
+        alloc: Global,
+        run: &R,
+        space: &S,
+        nodes: Vec<Node<S::Work>>,
+    ) -> Result<Closed, OutOfMemory>
+        requires covering { let p = S.problem space.now in CoverAll (S.admits p) (S.lies_in p) (S.fits p) nodes.items }
+        ensures count { self.new ≡ self.old }
+        ensures leased { IfOk result (λ closed. closed.leased ≡ 0) }
+        ensures sound { IfOk result (λ closed. IsSound (S.admits (S.problem space.now)) closed.word) }
+        ensures greatest { IfOk result (λ closed. closed.waiting ≡ 0 → IsGreatestKey (S.admits (S.problem space.now)) closed.word) }
+    {
         each_step_keeps_the_rule::<S>();
-        let root = space.root(alloc)?;
         let used = shards_of(self.count);
-        let (shards, pass) = Shards::start(alloc, space, root, used.shards)?;
+        let (shards, pass) = Shards::start(alloc, space, nodes, used.shards, used.stride)?;
         let news = EventCount::new();
         let crew = Crew {
             rt: run,
@@ -109,7 +126,28 @@ impl<'g, R: Threads + Wait + Sync, G: Gate> Workers<'g, R, G> {
         ensures count { self.new ≡ self.old }
         ensures greatest { IfOk result (IsGreatestKey (S.admits (S.problem space.now))) }
     {
-        let closed = self.run(alloc, run, space)?;
+        let nodes = beginning(alloc, space)?;
+        self.best_from(alloc, run, space, nodes)
+    }
+
+    /// The greatest admitted key, or 0 exactly where no key is admitted, of a search that goes on from nodes in which every
+    /// admitted key lies, as those that another search left open. The nodes are dealt out to the workers.
+    ///
+    /// # Errors
+    ///
+    /// Those of `best`.
+    pub fn best_from<S: Space>(
+        &mut self,
+        alloc: Global,
+        run: &R,
+        space: &S,
+        nodes: Vec<Node<S::Work>>,
+    ) -> Result<u64, OutOfMemory>
+        requires covering { let p = S.problem space.now in CoverAll (S.admits p) (S.lies_in p) (S.fits p) nodes.items }
+        ensures count { self.new ≡ self.old }
+        ensures greatest { IfOk result (IsGreatestKey (S.admits (S.problem space.now))) }
+    {
+        let closed = self.run_from(alloc, run, space, nodes)?;
         if closed.waiting == 0 {
             Ok(closed.word)
         } else {

@@ -2,6 +2,7 @@ mod Marks
 mod Moves
 mod Taking
 mod Giving
+mod Dealing
 mod Passes
 mod Named
 mod Leases

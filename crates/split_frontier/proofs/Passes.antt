@@ -1,9 +1,10 @@
 -- The rule as a search begins, and as passes are split and joined.
 use Rattle.std.proofs.Common.{◌≡◌, ℕ, zero, suc, ◌<◌, ◌≤◌, List, ℤ, [], ◌∷◌, ◌++◌, map, length, get_or, set, replicate, sym, refl, ap, ◌∙◌, inl, inr, ⊎_elim, subst, arith, rules, Option, None}
-use Rattle.std.specs.Prelude.{option_to_list, All, Any}
+use Rattle.std.specs.Prelude.{All, nat_lt}
 use Rattle.std.proofs.lemmas.Bool.{cases_lt}
 use Rattle.std.proofs.lemmas.List.{length-map, length-replicate, get_or-replicate, get_or_past}
-use Rattle.std.proofs.lemmas.List.Elements.{All-nil, All-cons, All-get_or, All-append}
+use Rattle.std.proofs.lemmas.List.Elements.{All-filter}
+use Rattle.std.proofs.lemmas.List.Sorted.{All-permutation}
 use mathlib.Core.Option.{Option as Maybe, some, some-injective, some-ne-none}
 use lib.ListN.{get_elem?}
 use Rattle.atomic_table.specs.Table.{State, Splits, Joins, opening}
@@ -11,19 +12,20 @@ use Rattle.atomic_table.proofs.Lists.{set_else, at_snoc, at_longer}
 use Rattle.box_search.specs.declared.space.Node.{Node}
 use Rattle.box_search.specs.declared.space.Shape.{Shape}
 use Rattle.box_search.specs.declared.lease.Entry.{Entry}
-use Rattle.box_search.specs.Search.{IsRootOf}
-use Rattle.frontier_turn.specs.declared.view.Outline.{Outline}
+use Rattle.box_search.specs.Leasing.{above}
+use Rattle.box_search.specs.Search.{BoundsKeys, CoverAll}
+use Rattle.box_search.proofs.Searching.{cover_in_any_order}
 use Rattle.frontier_turn.specs.declared.view.Snapshot.{Snapshot}
 use Rattle.frontier_turn.specs.Bags.{total, one_if}
 use Rattle.frontier_turn.specs.Snapshots.{nothing_left, numbered}
 use Rattle.frontier_turn.proofs.Bags.{total_set, total_same, total_snoc, total_joined}
 use Rattle.frontier_turn.proofs.Items.{within, each_set}
-use Rattle.frontier_turn.proofs.OpenNodes.{root_open, root_fits}
 use Rattle.split_frontier.specs.Claims.{of_home, IsClaimed}
 use Rattle.split_frontier.specs.Views.{View, blank, newcomer, split_left, split_right, joined}
 use Rattle.split_frontier.specs.Rule.{Slot, parts_of, is_shard, held_by, named_by, IsPass, IsOut, IsFree, IsTurned, ShardsRule}
-use Rattle.split_frontier.specs.Opening.{IsFresh, IsOpening}
+use Rattle.split_frontier.specs.Opening.{together, IsFresh, IsOpening}
 use Rattle.split_frontier.specs.Steps.{shown}
+use Rattle.split_frontier.proofs.Dealing.{fresh_at, all_open}
 use Rattle.split_frontier.proofs.Moves.{out_set}
 
 module _ {W : Type 0} (p : List ℤ) (admits : ℕ → Type 0) (lies_in : ℕ → Shape → Type 0) (fits : Node W → Type 0) where
@@ -134,45 +136,38 @@ module _ {W : Type 0} (p : List ℤ) (admits : ℕ → Type 0) (lies_in : ℕ �
     parked = fresh.parked;
     at_home = ap some fresh.is;
     shows = sym (ap shown fresh.is);
-    fitting = subst (All fits) (sym fresh.opened) fitting;
+    fitting = All-permutation fits (above 0 nodes) fresh.parked.frontier.open_nodes fresh.opened (All-filter (λ one. nat_lt 0 one.bound) fits nodes fitting);
   }
 
   fresh_leased : (slot : Slot W) (nodes : List (Node W)) (h : Entry → ℕ) → IsFresh nodes slot → total h (shown slot).leased ≡ 0
   fresh_leased slot nodes h fresh = ap (λ (z : Slot W). total h (shown z).leased) fresh.is ∙ ap (total h) fresh.leased
 
-  pub opens : (words : List ℕ) (slots : List (Slot W)) (root : Option (Node W)) → IsRootOf admits lies_in fits root → IsOpening root slots → length words ≡ suc (length slots) → ((i : ℕ) → get_or words i 0 ≡ 0)
-      → ShardsRule p admits lies_in fits (opening words slots (newcomer p))
-  opens words [] root law begins long zeros = absurd begins
-  opens words (slot ∷ slots) root law begins long zeros =
-      let now = begun (slot ∷ slots) in
-      let fresh_at : (shard : ℕ) → (shard < length (slot ∷ slots)) → (nodes : List (Node W)) × IsFresh nodes (get_or (slot ∷ slots) shard None) × All fits nodes = λ shard there. each shard there in
-      let empty : (shard : ℕ) → length (slot ∷ slots) ≤ shard → now shard ≡ nothing_left = λ shard l. ap shown (past_end (slot ∷ slots) shard l) in
-      let none_leased : (shard : ℕ) (h : Entry → ℕ) → total h (now shard).leased ≡ 0 = λ shard h. ⊎_elim
-      (λ (near : shard < length (slot ∷ slots)). let f = fresh_at shard near in fresh_leased (get_or (slot ∷ slots) shard None) f.0 h f.1)
-      (λ (far : length (slot ∷ slots) ≤ shard). ap (λ (z : Snapshot). total h z.leased) (empty shard far)) (cases_lt shard (length (slot ∷ slots))) in
-      record {
-        now = now;
-        beyond = λ shard l. empty shard (subst (λ (n : ℕ). n ≤ shard) (length-map (slot ∷ slots) some) l);
-        turn_words = long ∙ ap suc (sym (length-map (slot ∷ slots) some));
-        parts = refl;
-        each = λ j u at. subst (λ (n : ℕ). IsPass p n now u) (sym (zeros 0)) (first now j u at);
-        sound = inl (zeros 0);
-        turned = λ shard home home_at.
-            let at = at_some (slot ∷ slots) shard home home_at in
-            let f = fresh_at shard (within (slot ∷ slots) shard (get_or (slot ∷ slots) shard None) at.1).0 in
-            subst (λ (z : ℕ × Maybe (Slot W)). IsTurned p admits lies_in fits z.0 z.1 0 (now shard)) (λ i. (sym (zeros (suc shard)) i, sym at.0 i)) (inl (fresh_free (get_or (slot ∷ slots) shard None) f.0 f.1 f.2));
-        covered = λ key fair. inr (inl (0, subst (λ (z : Slot W). Any (λ (o : Outline). lies_in key o.shape) (shown z).open_nodes) (sym begins.first.is) (root_open admits lies_in fits begins.first.parked.frontier root law begins.first.opened key fair)));
-        leases = λ shard h. sym (none_leased shard h);
-        numbers = λ shard x. let none_there = none_leased shard (numbered x) in omega arith;
-      } where
-        each : (shard : ℕ) → shard < length (slot ∷ slots) → (nodes : List (Node W)) × IsFresh nodes (get_or (slot ∷ slots) shard None) × All fits nodes
-        each zero there = (option_to_list root, begins.first, root_fits admits lies_in fits root law)
-        each (suc shard) there = ([], All-get_or (IsFresh []) slots shard None (omega arith) begins.others, All-nil fits)
-
--- one more shard begins with nothing
-pub begins_more : {W : Type 0} (root : Option (Node W)) (slots : List (Slot W)) (slot : Slot W) → IsOpening root slots → IsFresh [] slot → IsOpening root (slots ++ slot ∷ [])
-begins_more root [] slot begins fresh = absurd begins
-begins_more root (x ∷ xs) slot begins fresh = record { first = begins.first; others = All-append (IsFresh []) xs (slot ∷ []) begins.others (All-cons (IsFresh []) slot [] fresh (All-nil (IsFresh []))) }
+  module _ (positive : (key : ℕ) → admits key → 0 < key) (bounded : BoundsKeys admits lies_in fits) where
+    pub opens : (words : List ℕ) (slots : List (Slot W)) (nodes : List (Node W)) → CoverAll admits lies_in fits nodes → IsOpening nodes slots → length words ≡ suc (length slots) → ((i : ℕ) → get_or words i 0 ≡ 0)
+        → ShardsRule p admits lies_in fits (opening words slots (newcomer p))
+    opens words slots nodes covering begins long zeros =
+        let now = begun slots in
+        let dealt = cover_in_any_order admits lies_in fits nodes (together begins.shares) begins.dealt covering in
+        let fresh_here : (shard : ℕ) → shard < length slots → (share : List (Node W)) × IsFresh share (get_or slots shard None) × All fits share = fresh_at admits lies_in fits begins.shares slots begins.fresh dealt.fitting in
+        let empty : (shard : ℕ) → length slots ≤ shard → now shard ≡ nothing_left = λ shard l. ap shown (past_end slots shard l) in
+        let none_leased : (shard : ℕ) (h : Entry → ℕ) → total h (now shard).leased ≡ 0 = λ shard h. ⊎_elim
+        (λ (near : shard < length slots). let f = fresh_here shard near in fresh_leased (get_or slots shard None) f.0 h f.1)
+        (λ (far : length slots ≤ shard). ap (λ (z : Snapshot). total h z.leased) (empty shard far)) (cases_lt shard (length slots)) in
+        record {
+          now = now;
+          beyond = λ shard l. empty shard (subst (λ (n : ℕ). n ≤ shard) (length-map slots some) l);
+          turn_words = long ∙ ap suc (sym (length-map slots some));
+          parts = refl;
+          each = λ j u at. subst (λ (n : ℕ). IsPass p n now u) (sym (zeros 0)) (first now j u at);
+          sound = inl (zeros 0);
+          turned = λ shard home home_at.
+              let at = at_some slots shard home home_at in
+              let f = fresh_here shard (within slots shard (get_or slots shard None) at.1).0 in
+              subst (λ (z : ℕ × Maybe (Slot W)). IsTurned p admits lies_in fits z.0 z.1 0 (now shard)) (λ i. (sym (zeros (suc shard)) i, sym at.0 i)) (inl (fresh_free (get_or slots shard None) f.0 f.1 f.2));
+          covered = λ key fair. inr (inl (all_open admits lies_in fits positive bounded nodes slots covering begins key fair));
+          leases = λ shard h. sym (none_leased shard h);
+          numbers = λ shard x. let none_there = none_leased shard (numbered x) in omega arith;
+        }
 
 pub zeros : (n i : ℕ) → get_or {A = ℕ} (replicate {A = ℕ} n 0) i 0 ≡ 0
 zeros n i =

@@ -1,10 +1,10 @@
 -- The law of the split search: its rule holds as a search begins, and each step of each pass keeps it.
-use Rattle.std.specs.Prelude.{◌≡◌, ℕ, suc, ◌<◌, List, [], ◌∷◌, ℤ, length, slice_index, Option, Some, None}
+use Rattle.std.specs.Prelude.{◌≡◌, ℕ, suc, ◌<◌, List, [], ◌∷◌, ℤ, length, slice_index, Some, None}
 use mathlib.Core.Option.{none}
 use Rattle.atomic_table.specs.Table.{State, step, Allows, opening}
 use Rattle.box_search.specs.declared.space.Node.{Node}
 use Rattle.box_search.specs.declared.space.Shape.{Shape}
-use Rattle.box_search.specs.Search.{IsRootOf}
+use Rattle.box_search.specs.Search.{CoverAll}
 use Rattle.frontier_turn.specs.Sharing.{IsLiveIn, KeepTheRule}
 use Rattle.split_frontier.specs.declared.parked.Parked.{Parked}
 use Rattle.split_frontier.specs.Claims.{claims_after}
@@ -18,10 +18,10 @@ module _ {W : Type 0} (admits : List ℤ → ℕ → Type 0) (lies_in : List ℤ
   abbrev pub RuleOf : List ℤ → State (Slot W) View → Type 0
   RuleOf problem = ShardsRule problem (admits problem) (lies_in problem) (fits problem)
 
-  -- as a search begins, all words are 0, the first shard has the root or none is, the others have nothing, and there is one pass
+  -- as a search begins, all words are 0, nodes that cover all admitted keys are dealt out to the shards, and there is one pass
   abbrev pub BeginsByRule : Type 0
-  BeginsByRule = (problem : List ℤ) (root : Option (Node W)) (words : List ℕ) (slots : List (Slot W))
-      → IsRootOf (admits problem) (lies_in problem) (fits problem) root → IsOpening root slots
+  BeginsByRule = (problem : List ℤ) (nodes : List (Node W)) (words : List ℕ) (slots : List (Slot W))
+      → CoverAll (admits problem) (lies_in problem) (fits problem) nodes → IsOpening nodes slots
       → length words ≡ suc (length slots) → ((place : ℕ) → slice_index words place ≡ 0)
       → RuleOf problem (opening words slots (newcomer problem))
 

@@ -1,23 +1,33 @@
 -- The frontiers of the shards as a search begins.
-use Rattle.std.specs.Prelude.{◌≡◌, List, [], ◌∷◌, All, Option, Some, option_to_list}
+use Rattle.std.specs.Prelude.{◌≡◌, List, [], ◌∷◌, ◌++◌, Some, ⊤}
+use Rattle.std.specs.List.Sorted.{IsPermutation}
+use Rattle.box_search.specs.Leasing.{above}
 use Rattle.box_search.specs.declared.space.Node.{Node}
 use Rattle.split_frontier.specs.declared.parked.Parked.{Parked}
 use Rattle.split_frontier.specs.Rule.{Slot}
 
+-- the lists one after the other
+abbrev pub together : {X : Type 0} → List (List X) → List X
+together [] = []
+together (list ∷ lists) = list ++ together lists
+
 module _ {W : Type 0} where
-  -- a frontier with these nodes open, and none leased
+  -- a frontier with those of these nodes open whose bound is above 0, and none leased
   pub record IsFresh (nodes : List (Node W)) (slot : Slot W) : Type 0 where
     pub parked : Parked W
     pub is : slot ≡ Some parked
-    pub opened : parked.frontier.open_nodes ≡ nodes
+    pub opened : IsPermutation (above 0 nodes) parked.frontier.open_nodes
     pub leased : parked.frontier.leased ≡ []
 
-  -- the first of these slots has the root, and the others have nothing
-  pub record IsBegun (root : Option (Node W)) (slot : Slot W) (slots : List (Slot W)) : Type 0 where
-    pub first : IsFresh (option_to_list root) slot
-    pub others : All (IsFresh []) slots
+  -- each slot has such a frontier with a share of the nodes
+  abbrev pub AreFresh : List (List (Node W)) → List (Slot W) → Type 0
+  AreFresh [] [] = ⊤
+  AreFresh [] (slot ∷ slots) = ⊥
+  AreFresh (share ∷ shares) [] = ⊥
+  AreFresh (share ∷ shares) (slot ∷ slots) = IsFresh share slot × AreFresh shares slots
 
-  -- there is a first shard, which has the root
-  abbrev pub IsOpening : Option (Node W) → List (Slot W) → Type 0
-  IsOpening root [] = ⊥
-  IsOpening root (slot ∷ slots) = IsBegun root slot slots
+  -- the nodes are dealt out, and each slot begins with a share of them
+  pub record IsOpening (nodes : List (Node W)) (slots : List (Slot W)) : Type 0 where
+    pub shares : List (List (Node W))
+    pub dealt : IsPermutation nodes (together shares)
+    pub fresh : AreFresh shares slots

@@ -1,12 +1,12 @@
 //! The split search: one bound word, and of each shard a turn word and a slot that has its frontier.
-ghost use Rattle.std.specs.Prelude.{◌≡◌, ℕ, ◌+◌, ◌^◌, ◌<◌, ◌≤◌, [], true, length, All, IfOk, IfErr, vec_len};
-ghost use Rattle.std.specs.Option.{option_to_list};
-ghost use Rattle.box_search.specs.Search.{IsRootOf, IsSound, IsGreatestKey};
+ghost use Rattle.std.specs.Prelude.{◌≡◌, ℕ, ◌+◌, ◌^◌, ◌<◌, ◌≤◌, [], true, length, map, All, IfOk, IfErr, vec_len};
+ghost use Rattle.std.specs.List.Sorted.{IsPermutation};
+ghost use Rattle.box_search.specs.Search.{CoverAll, IsSound, IsGreatestKey};
 ghost use Rattle.frontier_turn.specs.Snapshots.{snapshot_of};
 ghost use Rattle.split_frontier.specs.Callers.{IsOwn};
 ghost use Rattle.split_frontier.specs.Closing.{at_most, ClosesAs};
 ghost use Rattle.split_frontier.specs.Holding.{AreLeased};
-ghost use Rattle.split_frontier.specs.Opening.{IsFresh, IsOpening};
+ghost use Rattle.split_frontier.specs.Opening.{together, IsFresh, AreFresh};
 ghost use Rattle.split_frontier.specs.Rule.{is_listed};
 ghost use Rattle.split_frontier.specs.Views.{newcomer, standing, parting, meets, meets_often, takes_turn};
 
@@ -50,28 +50,53 @@ impl<'s, S: Space> Model for Shards<'s, S> {
     ghost invariant = { λ shards. IsSplitTable shards.table.shared.table_id (vec_len shards.given) };
 }
 
-/// A slot with a frontier that has the root open, or nothing.
-fn slot<W: Drop>(alloc: Global, root: Option<Node<W>>) -> Result<Option<Parked<W>>, OutOfMemory>
-    ensures fresh { IfOk result (IsFresh (option_to_list root)) }
+/// Deals the nodes out into as many shares as there are shards, one after the other: each `stride`th shard is dealt to.
+fn deal<W: Drop>(
+    alloc: Global,
+    nodes: Vec<Node<W>>,
+    shards: usize,
+    stride: usize,
+) -> Result<Vec<Vec<Node<W>>>, OutOfMemory>
+    requires some { 1 ≤ shards }
+    ensures count { IfOk result (λ shares. vec_len shares ≡ shards) }
+    ensures dealt { IfOk result (λ shares. IsPermutation nodes.items (together (map (λ share. share.items) shares.items))) }
 {
-    let frontier = Frontier::new(alloc, root)?;
+    let mut shares = Vec::with_capacity(alloc, shards)?;
+    for _ in 0..shards {
+        shares.push(Vec::new(alloc))?;
+    }
+    let mut dealt_to = stride.wrapping_sub(1) % shards;
+    for node in nodes {
+        shares[dealt_to].push(node)?;
+        dealt_to = dealt_to.wrapping_add(stride) % shards;
+    }
+    Ok(shares)
+}
+
+/// A slot with a frontier that has these nodes open.
+fn slot<W: Drop>(alloc: Global, nodes: Vec<Node<W>>) -> Result<Option<Parked<W>>, OutOfMemory>
+    ensures fresh { IfOk result (IsFresh nodes.items) }
+{
+    let mut frontier = Frontier::new(alloc, None)?;
+    match frontier.add(nodes, 0) {
+        Ok(()) => {}
+        Err(_) => return Err(OutOfMemory),
+    }
     let naming = Snapshot::of(&Naming::AsTaken);
     Ok(Some(Parked { frontier, naming }))
 }
 
-/// The slots of the shards, of which the first has the root.
+/// The slots of the shards, each with its share of the nodes.
 fn slots<W: Drop>(
     alloc: Global,
-    root: Option<Node<W>>,
-    shards: usize,
+    shares: Vec<Vec<Node<W>>>,
 ) -> Result<Vec<Option<Parked<W>>>, OutOfMemory>
-    requires some { 1 ≤ shards }
-    ensures count { IfOk result (λ made. vec_len made ≡ shards) }
-    ensures opening { IfOk result (λ made. IsOpening root made.items) }
+    ensures count { IfOk result (λ made. vec_len made ≡ vec_len shares) }
+    ensures fresh { IfOk result (λ made. AreFresh (map (λ share. share.items) shares.items) made.items) }
 {
-    let mut made = vec![in alloc; slot(alloc, root)?]?;
-    for _ in 1..shards {
-        made.push(slot(alloc, None)?)?;
+    let mut made = Vec::with_capacity(alloc, shares.len())?;
+    for share in shares {
+        made.push(slot(alloc, share)?)?;
     }
     Ok(made)
 }
@@ -116,16 +141,18 @@ fn wait_or_pause<R: Wait>(rt: &R, key: Option<Key<'_>>) {
 }
 
 impl<'s, S: Space> Shards<'s, S> {
-    /// A search with 1 to `MAX_WORKERS` shards that begins at a root in shard 0, or at none where no key is admitted, and
-    /// its first pass, which has all 2^64 parts. It takes all the memory of the table.
+    /// A search with 1 to `MAX_WORKERS` shards that begins at nodes in which every admitted key lies, as a root or what
+    /// another search left open, and its first pass, which has all 2^64 parts. The nodes are dealt out to each `stride`th
+    /// shard in turn. It takes all the memory of the table.
     pub fn start(
         alloc: Global,
         space: &'s S,
-        root: Option<Node<S::Work>>,
+        nodes: Vec<Node<S::Work>>,
         shards: u32,
+        stride: u32,
     ) -> Result<(Shards<'s, S>, SplitPass<S>), OutOfMemory>
         requires counts { (1 ≤ shards) × (shards ≤ MAX_WORKERS) }
-        requires root { let p = S.problem space.now in IsRootOf (S.admits p) (S.lies_in p) (S.fits p) root }
+        requires covering { let p = S.problem space.now in CoverAll (S.admits p) (S.lies_in p) (S.fits p) nodes.items }
         ensures problem { IfOk result (λ started. started.0.problem ≡ S.problem space.now) }
         ensures shards { IfOk result (λ started. started.0.shards ≡ shards) }
         ensures own { IfOk result (λ started. IsOwn started.0 started.1) }
@@ -134,7 +161,8 @@ impl<'s, S: Space> Shards<'s, S> {
         let count = shards as usize;
         let words = vec![in alloc; 0; count + 1]?;
         let given = events(alloc, count)?;
-        let slots = slots(alloc, root, count)?;
+        let shares = deal(alloc, nodes, count, stride as usize)?;
+        let slots = slots(alloc, shares)?;
         let (table, seat) = match Table::new(alloc, words.as_slice(), slots, space) {
             Ok(made) => made,
             Err(Refused { slots: _ }) => return Err(OutOfMemory),

@@ -4,7 +4,7 @@ ghost use Rattle.split_frontier.specs.Callers.{IsOwn};
 ghost use Rattle.split_frontier.specs.Claims.{unspent, spent};
 
 use super::pages::{RIGHT, Sides, corner_block, shape_of};
-use box_search::{Lease, Space, Take};
+use box_search::{Lease, Take, beginning};
 use frontier_turn::DividesPasses;
 use search_trials::ShardHand;
 use split_frontier::{Shards, SplitPass};
@@ -110,8 +110,8 @@ fn end_beside<S: Space, R: Wait>(
 fn adopt_and_end_by_hand(rt: HostRuntime) -> Result<(), Fail> {
     let alloc = rt.alloc();
     let white = corner_block(&rt, alloc)?;
-    let root = white.root(alloc)?;
-    let (shards, mut first) = Shards::start(alloc, &white, root, 2)?;
+    let nodes = beginning(alloc, &white)?;
+    let (shards, mut first) = Shards::start(alloc, &white, nodes, 2, 1)?;
     let second = shards.split(&mut first);
     let hand = ShardHand {
         rt: &rt,

@@ -6,7 +6,7 @@ ghost use Rattle.split_frontier.specs.Callers.{IsOwn};
 
 use super::{BELOW, RIGHT};
 use crate::{ShardHand, Table};
-use box_search::{Space, Take};
+use box_search::{Space, Take, beginning};
 use frontier_turn::{Closed, DividesPasses};
 use layout_limits::OutOfMemory;
 use split_frontier::{Shards, SplitPass};
@@ -24,8 +24,8 @@ fn close_at_once(
 ) -> Result<(u64, u64, u64), OutOfMemory>
     requires counts { (1 ≤ count) × (count ≤ MAX_WORKERS) }
 {
-    let root = keys.root(alloc)?;
-    let (shards, pass) = Shards::start(alloc, keys, root, count)?;
+    let nodes = beginning(alloc, keys)?;
+    let (shards, pass) = Shards::start(alloc, keys, nodes, count, 1)?;
     let closed = shards.close(pass);
     Ok((closed.word, closed.waiting, closed.leased))
 }
@@ -49,8 +49,8 @@ fn work_off_one<R: Abort + Wait>(
 ) -> Result<(bool, (u64, u64, u64)), OutOfMemory>
     requires there { own < 2 }
 {
-    let root = keys.root(alloc)?;
-    let (shards, pass) = Shards::start(alloc, keys, root, 2)?;
+    let nodes = beginning(alloc, keys)?;
+    let (shards, pass) = Shards::start(alloc, keys, nodes, 2, 1)?;
     let hand = ShardHand {
         rt,
         space: keys,
@@ -121,8 +121,8 @@ pub(super) fn split_search_by_two<R: Threads + Wait + Sync>(
     alloc: Global,
     keys: &Table<'_>,
 ) -> Result<Closed, OutOfMemory> {
-    let root = keys.root(alloc)?;
-    let (shards, mut first) = Shards::start(alloc, keys, root, 2)?;
+    let nodes = beginning(alloc, keys)?;
+    let (shards, mut first) = Shards::start(alloc, keys, nodes, 2, 1)?;
     let second = shards.split(&mut first);
     let left = ShardHand {
         rt,
