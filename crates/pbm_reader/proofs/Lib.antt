@@ -30,9 +30,11 @@ pub mod EitherForm
 pub mod TailLoop
 pub mod WholePage
 pub mod ImageRead
+pub mod Held
 pub mod Coming
 pub mod NextImage
 pub mod WithinLimit
 pub mod NextRead
 pub mod NextCall
 pub mod NextLaws
+pub mod HeldNext

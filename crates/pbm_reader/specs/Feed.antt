@@ -52,15 +52,17 @@ pub record Loan : Type 0 where
   pub unseen : Option (List ℕ)
   pub space : ℕ
 
--- A feed: its source, as it is seen, with the unread bytes of the piece; those bytes; and its loan.
-pub record FeedView : Type 0 where
+-- A feed: its source itself; how that is seen, with the unread bytes of the piece; those bytes; and its loan.
+pub record FeedView (Own : Type 0) : Type 0 where
+  pub own : Own
   pub source : SourceView
   pub unread : List ℕ
   pub borrow : Loan
 
 -- the feed of a source and a piece
-abbrev pub fed : ℕ → SourceView → PieceView → FeedView
-fed name source piece = record {
+abbrev pub fed : {Own : Type 0} → ℕ → Own → SourceView → PieceView → FeedView Own
+fed name own source piece = record {
+  own = own;
   source = whole piece source;
   unread = piece.unread;
   borrow = record { name = name; is_limited = is_limited piece.room; unseen = unseen piece.room source; space = piece.space };

@@ -11,4 +11,5 @@ pub mod Raster
 pub mod Plain
 pub mod Tail
 pub mod Rows
+pub mod Held
 pub mod Reader

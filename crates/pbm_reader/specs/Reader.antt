@@ -103,6 +103,17 @@ DecidesNoFault count len taken =
     (images : List ℕ) → WereImages count len images → (fault : PageFault)
     → ((rest : List ℕ) → HasPagesFault (images ++ (taken ++ rest)) fault) → ⊥
 
+-- an input of so many images and these bytes has one fault, whatever follows
+pub record DecidesFault (count len : ℕ) (bytes : List ℕ) : Type 0 where
+  pub images : List ℕ
+  pub were : WereImages count len images
+  pub fault : PageFault
+  pub has_fault : (rest : List ℕ) → HasPagesFault (images ++ (bytes ++ rest)) fault
+
+-- the bytes behind so many images begin with the next one whole, or decide a fault
+abbrev pub SettlesNext : ℕ → ℕ → List ℕ → Type 0
+SettlesNext count len bytes = IsNextImage count len bytes ⊎ DecidesFault count len bytes
+
 abbrev pub is_plain : Form → Bool
 is_plain Plain = true
 is_plain Raw = false

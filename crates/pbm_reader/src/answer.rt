@@ -1,6 +1,6 @@
 //! What an answer says that was read within the limit of an input: of the whole input, unless it
 //! stands at the limit and the input goes on.
-ghost use Rattle.std.specs.Prelude.{◌≡◌, ◌≤◌, ◌<◌, ◌+◌, ◌-◌, ◌⊎◌, ◌↔◌, ℕ, true, List, [], ◌∷◌, length, Some, None, Ok, Err};
+ghost use Rattle.std.specs.Prelude.{◌≡◌, ◌≤◌, ◌<◌, ◌+◌, ◌-◌, ◌⊎◌, ◌↔◌, ℕ, true, false, List, [], ◌∷◌, length, Some, None, Ok, Err};
 ghost use Rattle.std.specs.Prelude.{IfOk, IfErr, IfSome, IfNone, OnErr, IsTrue, IsFalse};
 ghost use Rattle.layout_outside.specs.Taken.{HasEnded, HasSourceCause, Took};
 ghost use Rattle.pbm_reader.specs.declared.limits.TheConstants.{MAX_INPUT};
@@ -9,7 +9,8 @@ ghost use Rattle.pbm_reader.specs.declared.fault.PageFault.TheVariants.{InputToo
 ghost use Rattle.pbm_reader.specs.Fault.{HasLowPlace};
 ghost use Rattle.pbm_reader.specs.Feed.{is_limited, whole};
 ghost use Rattle.pbm_reader.specs.Reading.{HasReadCause};
-ghost use Rattle.pbm_reader.specs.Reader.{counted_from, ReadsWithin, StandsAtEnd};
+ghost use Rattle.pbm_reader.specs.Reader.{counted_from, MayBegin, ReadsWithin, StandsAtEnd};
+ghost use Rattle.pbm_reader.specs.Images.{AreUndecided};
 
 use crate::fault::PageFault;
 use crate::feed::Piece;
@@ -60,6 +61,9 @@ pub(crate) fn read_within<S: Source, R: RowSink>(
     requires low { judged + length piece.old.unread ≤ MAX_INPUT }
     ensures reads { ReadsWithin R.begun R.given R.unchanged is_first (MAX_INPUT - judged) piece.old piece.new
         (S.view src.old) (S.view src.new) rows.old rows.new result }
+    // Where what is held has the image whole, or decides a fault, nothing is read.
+    ensures held { is_first ≡ false → ((src.new ≡ src.old) × (StandsAtEnd (MAX_INPUT - judged) result → ⊥))
+        ⊎ (AreUndecided piece.old.unread × MayBegin is_first piece.old.unread) }
     ensures limited { is_limited piece.new.room ≡ true }
     ensures space { piece.new.space ≡ piece.old.space }
     ensures cause { HasReadCause (S.view src.old) (S.view src.new) result }
@@ -98,6 +102,7 @@ pub(crate) fn goes_past<S: Source>(
     ensures ended { IfOk result (λ more. IsFalse more → StandsAtEnd left answer.now → HasEnded (whole piece.old (S.view src.old))
         → HasEnded (S.view src.new)) }
     ensures err { OnErr result (StandsAtEnd left answer.now × Took (S.view src.old) (S.view src.new) []) }
+    ensures quiet { (StandsAtEnd left answer.now → ⊥) → src.new ≡ src.old }
     ensures unread { piece.new.unread ≡ piece.old.unread }
     ensures space { piece.new.space ≡ piece.old.space }
     ensures cause { HasSourceCause (S.view src.old) (S.view src.new) result }

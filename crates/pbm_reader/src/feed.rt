@@ -4,6 +4,7 @@ ghost use Rattle.std.specs.Prelude.{take, drop, min, IfSome, IfNone, IfOk, OnOk,
 ghost use Rattle.layout_outside.specs.Taken.{HasEnded, HasSourceCause, Took, TookAll, TookPart};
 ghost use Rattle.layout_outside.specs.Views.{IsRead};
 ghost use Rattle.pbm_reader.specs.Feed.{FeedView, PieceView, fed, is_limited, seen, unseen, whole, with_unread};
+ghost use Rattle.pbm_reader.specs.Held.{TookHeld};
 
 use crate::limits::MAX_PIECE;
 use layout_limits::OutOfMemory;
@@ -169,6 +170,7 @@ impl Piece {
         ensures none { IfOk result (λ next. IfNone next ((self.new.room ≡ self.old.room) × (self.old.unread ≡ []))) }
         ensures err { OnErr result (Took (whole self.old (S.view src.old)) (whole self.new (S.view src.new)) []) }
         ensures drained { OnErr result (self.new.unread ≡ []) }
+        ensures spent { OnErr result (self.old.unread ≡ []) }
         ensures held { 0 < length self.old.unread → (src.new ≡ src.old)
             × IfOk result (λ next. IfSome next (λ byte. self.old.unread ≡ byte ∷ self.new.unread)) }
         ensures fits { IfOk result (λ next. IfSome next (λ _. (room : ℕ) → self.old.room ≡ Some room
@@ -221,15 +223,15 @@ pub struct Feed<'s, S: Source> {
 }
 
 impl<'s, S: Source> Model for Feed<'s, S> {
-    ghost Value = { FeedView };
+    ghost Value = { FeedView S };
 
-    ghost view = { λ f. fed f.src.ghost_name (S.view f.src.now) f.piece };
+    ghost view = { λ f. fed f.src.ghost_name f.src.now (S.view f.src.now) f.piece };
 }
 
 impl<'s, S: Source> Feed<'s, S> {
     /// A feed of a source, of which this piece is unread.
     pub fn new(src: &'s mut S, piece: Piece) -> Feed<'s, S>
-        ensures { result ≡ fed src.entry.ghost_name (S.view src.old) piece }
+        ensures { result ≡ fed src.entry.ghost_name src.old (S.view src.old) piece }
     {
         Feed { src, piece }
     }
@@ -244,7 +246,7 @@ impl<'s, S: Source> Feed<'s, S> {
 
     /// Gives the source back, and the piece with what is unread to the place of another.
     pub fn close(self, piece: &mut Piece) -> &'s mut S
-        ensures feed { self.entry ≡ fed result.ghost_name (S.view result.now) piece.new }
+        ensures feed { self.entry ≡ fed result.ghost_name result.now (S.view result.now) piece.new }
     {
         *piece = self.piece;
         self.src
@@ -256,6 +258,10 @@ impl<'s, S: Source> Feed<'s, S> {
         ensures end { IfOk result (λ next. IfNone next (TookAll self.old.source self.new.source [])) }
         ensures err { OnErr result (Took self.old.source self.new.source []) }
         ensures drained { OnErr result (self.new.unread ≡ []) }
+        // Where a byte is unread nothing is read.
+        ensures held { IfOk result (λ next. IfSome next (λ byte. TookHeld self.old self.new (byte ∷ []) ⊎ (self.old.unread ≡ []))) }
+        ensures none { IfOk result (λ next. IfNone next (self.old.unread ≡ [])) }
+        ensures spent { OnErr result (self.old.unread ≡ []) }
         ensures same { self.new.borrow ≡ self.old.borrow }
         ensures cause { HasSourceCause self.old.source self.new.source result }
     {
@@ -270,6 +276,8 @@ impl<'s, S: Source> Feed<'s, S> {
         ensures end { IfOk result (λ count. count ≡ 0 → HasEnded self.new.source) }
         ensures err { OnErr result (Took self.old.source self.new.source []) }
         ensures drained { OnErr result (self.new.unread ≡ []) }
+        ensures held { 0 < length self.old.unread → (self.new.own ≡ self.old.own) × OnErr result ⊥
+            × IfOk result (λ count. (0 < count) × (length self.old.unread ≡ count + length self.new.unread)) }
         ensures same { self.new.borrow ≡ self.old.borrow }
         ensures cause { HasSourceCause self.old.source self.new.source result }
     {
@@ -302,6 +310,9 @@ impl<'s, S: Source> Feed<'s, S> {
         ensures end { IfOk result (λ count. count < length buf.new → HasEnded self.new.source) }
         ensures err { OnErr result (TookPart self.old.source self.new.source (length buf.old)) }
         ensures drained { OnErr result (self.new.unread ≡ []) }
+        // Where the buffer can be filled with what is unread nothing is read.
+        ensures held { length buf.old ≤ length self.old.unread → (self.new.own ≡ self.old.own) × OnErr result ⊥
+            × IfOk result (λ count. (count ≡ length buf.old) × (length self.old.unread ≡ count + length self.new.unread)) }
         ensures same { self.new.borrow ≡ self.old.borrow }
         ensures cause { HasSourceCause self.old.source self.new.source result }
     {

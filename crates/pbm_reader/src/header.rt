@@ -1,5 +1,5 @@
 //! The header of a page.
-ghost use Rattle.std.specs.Prelude.{◌≡◌, ◌≤◌, ◌<◌, ◌^◌, List, [], ℕ, IfOk, IfErr, IfSome, IfNone};
+ghost use Rattle.std.specs.Prelude.{◌≡◌, ◌≤◌, ◌<◌, ◌⊎◌, ◌+◌, ◌^◌, List, [], ◌++◌, length, ℕ, IfOk, IfErr, IfSome, IfNone};
 ghost use Rattle.pbm_reader.specs.Page.{IsPageSize};
 ghost use Rattle.pbm_reader.specs.Reading.{HasReadCause, Refuses};
 ghost use Rattle.layout_outside.specs.Views.{SourceView};
@@ -8,6 +8,7 @@ ghost use Rattle.pbm_reader.specs.Spelling.{magic};
 ghost use Rattle.pbm_reader.specs.Header.{wrong_byte, missing_byte, IsOfHeader, NameFails, TookHeader};
 ghost use Rattle.pbm_reader.specs.Fault.{HasLowPlace, IsSizeFault};
 ghost use Rattle.pbm_reader.specs.Images.{AreUndecided};
+ghost use Rattle.pbm_reader.specs.Held.{IsNamePart, StaysInside, TookHeld, TookHeldSizes};
 
 use crate::fault::{PageFault, Size};
 use crate::feed::Feed;
@@ -52,6 +53,10 @@ pub(crate) fn read_name<S: Source>(feed: &mut Feed<'_, S>) -> Result<Option<Form
     ensures end { IfOk result (λ name. IfNone name (TookAll feed.old.source feed.new.source [])) }
     ensures fault { IfErr result (NameFails feed.old.source feed.new.source) }
     ensures low { IfErr result HasLowPlace }
+    // Where the name is held whole, or is wrong there, nothing is read.
+    ensures held { IfOk result (λ name. IfSome name (λ form. TookHeld feed.old feed.new (magic form) ⊎ IsNamePart feed.old.unread)) }
+    ensures none { IfOk result (λ name. IfNone name (IsNamePart feed.old.unread)) }
+    ensures stays { IfErr result (λ fault. StaysInside feed.old feed.new (length feed.old.unread) fault ⊎ IsNamePart feed.old.unread) }
     ensures drained { result ≡ Err PageFault.ReadFault → feed.new.unread ≡ [] }
     ensures same { feed.new.borrow ≡ feed.old.borrow }
     ensures cause { HasReadCause feed.old.source feed.new.source result }
@@ -99,6 +104,10 @@ pub(crate) fn read_sizes<S: Source>(feed: &mut Feed<'_, S>, form: Form) -> Resul
     ensures of_header { IfErr result IsOfHeader }
     ensures ended { (at : ℕ) → result ≡ Err (PageFault.Truncated at) → HasEnded feed.new.source }
     ensures form { IfOk result (λ header. header.form ≡ form) }
+    // Where what is held has the header whole, or decides a fault, nothing is read.
+    ensures held { IfOk result (λ header. TookHeldSizes feed.old feed.new form header ⊎ AreUndecided (magic form ++ feed.old.unread)) }
+    ensures stays { IfErr result (λ fault. StaysInside feed.old feed.new (2 + length feed.old.unread) fault
+        ⊎ AreUndecided (magic form ++ feed.old.unread)) }
     ensures drained { result ≡ Err PageFault.ReadFault → feed.new.unread ≡ [] }
     ensures same { feed.new.borrow ≡ feed.old.borrow }
     ensures cause { HasReadCause feed.old.source feed.new.source result }

@@ -1,5 +1,5 @@
 //! One image of an input that may have several.
-ghost use Rattle.std.specs.Prelude.{◌≡◌, ◌≤◌, false, List, [], IfOk, IfErr, IfSome, IfNone};
+ghost use Rattle.std.specs.Prelude.{◌≡◌, ◌≤◌, ◌⊎◌, ◌+◌, false, List, [], ◌++◌, length, IfOk, IfErr, IfSome, IfNone, OnErr};
 ghost use Rattle.layout_outside.specs.Views.{SourceView};
 ghost use Rattle.layout_outside.specs.Taken.{Took, TookAll};
 ghost use Rattle.pbm_reader.specs.Spelling.{magic};
@@ -8,7 +8,10 @@ ghost use Rattle.pbm_reader.specs.Given.{AfterFault};
 ghost use Rattle.pbm_reader.specs.Tail.{TookBehind, BehindFails};
 ghost use Rattle.pbm_reader.specs.Feed.{is_limited, unseen, whole};
 ghost use Rattle.pbm_reader.specs.Reading.{HasReadCause};
-ghost use Rattle.pbm_reader.specs.Reader.{ImageFails, MayBe, TookImage};
+ghost use Rattle.pbm_reader.specs.Reader.{ImageFails, MayBe, MayBegin, TookImage};
+ghost use Rattle.pbm_reader.specs.Images.{AreUndecided};
+ghost use Rattle.pbm_reader.specs.Held.{IsNamePart, IsOfHeld, ReadsNothing, StaysInside, TookHeld};
+ghost use Rattle.pbm_reader.specs.declared.form.Form.TheVariants.{Raw};
 
 use crate::fault::{PageFault, Size};
 use crate::feed::{Feed, Piece};
@@ -40,6 +43,9 @@ fn read_image_name<S: Source>(
     ensures end { IfOk result (λ name. IfNone name (TookAll feed.old.source feed.new.source [] × (is_first ≡ false))) }
     ensures fault { IfErr result (ImageFails is_first feed.old.source feed.new.source) }
     ensures low { IfErr result HasLowPlace }
+    ensures held { IfOk result (λ name. IfSome name (λ form. TookHeld feed.old feed.new (magic form) ⊎ IsNamePart feed.old.unread)) }
+    ensures none { IfOk result (λ name. IfNone name (IsNamePart feed.old.unread)) }
+    ensures stays { IfErr result (λ fault. StaysInside feed.old feed.new (length feed.old.unread) fault ⊎ IsNamePart feed.old.unread) }
     ensures drained { result ≡ Err PageFault.ReadFault → feed.new.unread ≡ [] }
     ensures same { feed.new.borrow ≡ feed.old.borrow }
     ensures cause { HasReadCause feed.old.source feed.new.source result }
@@ -57,6 +63,7 @@ fn read_behind<S: Source>(feed: &mut Feed<'_, S>, form: Form, start: u64) -> Res
     requires low { start ≤ MAX_INPUT }
     ensures ok { IfOk result (TookBehind feed.old.source feed.new.source form start) }
     ensures fault { IfErr result (BehindFails feed.old.source feed.new.source form start) }
+    ensures nothing { form ≡ Raw → (feed.new ≡ feed.old) × OnErr result ⊥ }
     ensures drained { result ≡ Err PageFault.ReadFault → feed.new.unread ≡ [] }
     ensures same { feed.new.borrow ≡ feed.old.borrow }
     ensures cause { HasReadCause feed.old.source feed.new.source result }
@@ -84,6 +91,8 @@ fn read_named<S: Source, R: RowSink>(
     ensures low { IfErr result HasLowPlace }
     ensures top { IfErr result (λ fault. (first : SourceView) → Took first feed.old.source (magic form)
         → AfterFault R.begun R.given R.unchanged first feed.new.source rows.old rows.new fault) }
+    ensures held { form ≡ Raw → ReadsNothing feed.old feed.new (2 + length feed.old.unread) result
+        ⊎ AreUndecided (magic form ++ feed.old.unread) }
     ensures drained { result ≡ Err PageFault.ReadFault → feed.new.unread ≡ [] }
     ensures same { feed.new.borrow ≡ feed.old.borrow }
     ensures cause { HasReadCause feed.old.source feed.new.source result }
@@ -112,6 +121,9 @@ pub(crate) fn read_image<S: Source, R: RowSink>(
     ensures fault { IfErr result (ImageFails is_first feed.old.source feed.new.source) }
     ensures low { IfErr result HasLowPlace }
     ensures top { IfErr result (AfterFault R.begun R.given R.unchanged feed.old.source feed.new.source rows.old rows.new) }
+    // Where what is held has the image whole, or decides a fault, nothing is read.
+    ensures held { is_first ≡ false → ((feed.new.own ≡ feed.old.own) × IsOfHeld (length feed.old.unread) result)
+        ⊎ (AreUndecided feed.old.unread × MayBegin is_first feed.old.unread) }
     ensures drained { result ≡ Err PageFault.ReadFault → feed.new.unread ≡ [] }
     ensures same { feed.new.borrow ≡ feed.old.borrow }
     ensures cause { HasReadCause feed.old.source feed.new.source result }
@@ -140,6 +152,8 @@ pub(crate) fn read_of_piece<S: Source, R: RowSink>(
     ensures low { IfErr result HasLowPlace }
     ensures top { IfErr result (AfterFault R.begun R.given R.unchanged (whole piece.old (S.view src.old))
         (whole piece.new (S.view src.new)) rows.old rows.new) }
+    ensures held { is_first ≡ false → ((src.new ≡ src.old) × IsOfHeld (length piece.old.unread) result)
+        ⊎ (AreUndecided piece.old.unread × MayBegin is_first piece.old.unread) }
     ensures drained { result ≡ Err PageFault.ReadFault → piece.new.unread ≡ [] }
     ensures unseen { unseen piece.new.room (S.view src.new) ≡ unseen piece.old.room (S.view src.old) }
     ensures limited { is_limited piece.new.room ≡ is_limited piece.old.room }

@@ -8,7 +8,7 @@ ghost use Rattle.pbm_reader.specs.declared.limits.TheConstants.{MAX_IMAGES, MAX_
 ghost use Rattle.pbm_reader.specs.declared.fault.PageFault.{PageFault};
 ghost use Rattle.pbm_reader.specs.Images.{behind_bytes, ArePages, HasPagesFault};
 ghost use Rattle.pbm_reader.specs.Reading.{AnswersFault, HasReadCause};
-ghost use Rattle.pbm_reader.specs.Reader.{coming, is_given, AfterNextFault, EndsBehind, EndsHere, GivesImage, HasSamePlace, ImagesView, IsGivenUnlessMemory, IsNextImage, Judges, RefusesByte, RefusesNext, TakesImage, TellsEnd, WereImages};
+ghost use Rattle.pbm_reader.specs.Reader.{coming, is_given, SettlesNext, DecidesNoFault, AfterNextFault, EndsBehind, EndsHere, GivesImage, HasSamePlace, ImagesView, IsGivenUnlessMemory, IsNextImage, Judges, RefusesByte, RefusesNext, TakesImage, TellsEnd, WereImages};
 
 use crate::answer::{counted_from, goes_past, read_within};
 use crate::fault::{PageFault, Size};
@@ -109,6 +109,8 @@ impl Images {
         // Where the end was answered nothing is read, and it is answered again. Nor is anything read where a byte is held behind as many
         // images as there may be.
         ensures quiet { (self.old.has_ended ≡ true) ⊎ ((self.old.count ≡ MAX_IMAGES) × (0 < length self.old.held)) → src.new ≡ src.old }
+        // Behind an image nothing is read either where what is held begins with the next one whole, or decides a fault.
+        ensures settled { 0 < self.old.count → SettlesNext self.old.count self.old.judged self.old.held → src.new ≡ src.old }
         ensures ended { self.old.has_ended ≡ true → result ≡ Ok None }
         ensures open { self.new.is_open ≡ is_given result }
         ensures called { self.new.gave_byte ≡ false }
@@ -151,6 +153,7 @@ impl Images {
         ensures top { IfErr result (AfterNextFault R.begun R.given R.unchanged self.old self.new (S.view src.old) (S.view src.new)
             rows.old rows.new) }
         ensures quiet { (self.old.has_ended ≡ true) ⊎ ((self.old.count ≡ MAX_IMAGES) × (0 < length self.old.held)) → src.new ≡ src.old }
+        ensures settled { 0 < self.old.count → SettlesNext self.old.count self.old.judged self.old.held → src.new ≡ src.old }
         ensures ended { self.old.has_ended ≡ true → result ≡ Ok None }
         ensures called { self.new.gave_byte ≡ false }
         ensures count { is_given result ≡ false → self.new.count ≡ self.old.count }
@@ -214,6 +217,8 @@ impl Images {
         ensures fault { IfErr result (RefusesNext self.old self.new (S.view src.old) (S.view src.new)) }
         ensures top { IfErr result (AfterNextFault R.begun R.given R.unchanged self.old self.new (S.view src.old) (S.view src.new)
             rows.old rows.new) }
+        ensures settled { 0 < self.old.count → (src.new ≡ src.old) ⊎ (DecidesNoFault self.old.count self.old.judged self.old.held
+            × (IsNextImage self.old.count self.old.judged self.old.held → ⊥)) }
         ensures open { self.new.has_ended ≡ false }
         ensures same { HasSamePlace self.old self.new }
         ensures cause { HasReadCause (S.view src.old) (S.view src.new) result }

@@ -4,6 +4,8 @@ ghost use Rattle.pbm_reader.specs.Reading.{HasReadCause};
 ghost use Rattle.pbm_reader.specs.Given.{Stays};
 ghost use Rattle.packed_rows.specs.Page.{IsPageSize, row_len};
 ghost use Rattle.pbm_reader.specs.Raster.{BytesFail, GivenTopRows, RasterFails, RowFails, TakesRow, TookCleared, TookRaster, TookRowIn};
+ghost use Rattle.pbm_reader.specs.Held.{TakesHeld};
+ghost use Rattle.pbm_reader.specs.declared.form.Form.TheVariants.{Raw};
 
 use crate::fault::PageFault;
 use crate::feed::Feed;
@@ -28,6 +30,7 @@ fn fill_row<S: Source>(
     ensures ok { OnOk result (TookCleared feed.old.source feed.new.source width row.new) }
     ensures len { length row.new ≡ length row.old }
     ensures fault { IfErr result (BytesFail feed.old.source feed.new.source at (row_len width)) }
+    ensures held { row_len width ≤ length feed.old.unread → TakesHeld feed.old feed.new (row_len width) result }
     ensures drained { result ≡ Err PageFault.ReadFault → feed.new.unread ≡ [] }
     ensures same { feed.new.borrow ≡ feed.old.borrow }
     ensures cause { HasReadCause feed.old.source feed.new.source result }
@@ -55,6 +58,7 @@ fn take_row<S: Source>(
     requires len { length row.old ≡ row_len width }
     ensures ok { IfOk result (λ end. TookRowIn form feed.old.source feed.new.source start end width row.new) }
     ensures fault { IfErr result (RowFails form feed.old.source feed.new.source start width) }
+    ensures held { form ≡ Raw → row_len width ≤ length feed.old.unread → TakesHeld feed.old feed.new (row_len width) result }
     ensures len { length row.new ≡ length row.old }
     ensures drained { result ≡ Err PageFault.ReadFault → feed.new.unread ≡ [] }
     ensures same { feed.new.borrow ≡ feed.old.borrow }
@@ -87,6 +91,7 @@ fn read_row<S: Source, R: RowSink>(
     ensures width { OnOk result (R.width_of rows.new ≡ width) }
     ensures rows { OnOk result (R.rows_left rows.new + 1 ≡ R.rows_left rows.old) }
     ensures fault { IfErr result (RowFails form feed.old.source feed.new.source start width) }
+    ensures held { form ≡ Raw → row_len width ≤ length feed.old.unread → TakesHeld feed.old feed.new (row_len width) result }
     ensures stays { OnErr result (Stays R.unchanged rows.old rows.new) }
     ensures drained { result ≡ Err PageFault.ReadFault → feed.new.unread ≡ [] }
     ensures same { feed.new.borrow ≡ feed.old.borrow }
@@ -115,6 +120,9 @@ pub(crate) fn read_raster<S: Source, R: RowSink>(
         feed.new.source header.form header.size.width header.size.height header.len) }
     ensures top { IfErr result (GivenTopRows R.given R.unchanged header.form header.size.width header.size.height header.len
         feed.old.source feed.new.source rows.old rows.new) }
+    // Where a raw raster is held whole nothing is read.
+    ensures held { header.form ≡ Raw → header.size.height * row_len header.size.width ≤ length feed.old.unread
+        → TakesHeld feed.old feed.new (header.size.height * row_len header.size.width) result }
     ensures drained { result ≡ Err PageFault.ReadFault → feed.new.unread ≡ [] }
     ensures same { feed.new.borrow ≡ feed.old.borrow }
     ensures cause { HasReadCause feed.old.source feed.new.source result }

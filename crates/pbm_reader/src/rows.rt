@@ -1,5 +1,5 @@
 //! A page to the end of its raster.
-ghost use Rattle.std.specs.Prelude.{◌≡◌, ◌≤◌, [], IfOk, IfErr};
+ghost use Rattle.std.specs.Prelude.{◌≡◌, ◌≤◌, ◌⊎◌, ◌+◌, [], ◌++◌, length, IfOk, IfErr};
 ghost use Rattle.layout_outside.specs.Views.{SourceView};
 ghost use Rattle.layout_outside.specs.Taken.{Took};
 ghost use Rattle.pbm_reader.specs.Spelling.{magic};
@@ -7,6 +7,9 @@ ghost use Rattle.pbm_reader.specs.Fault.{HasLowPlace};
 ghost use Rattle.pbm_reader.specs.Given.{AfterFault};
 ghost use Rattle.pbm_reader.specs.Reading.{HasReadCause};
 ghost use Rattle.pbm_reader.specs.Rows.{RowsFail, TookRows};
+ghost use Rattle.pbm_reader.specs.Images.{AreUndecided};
+ghost use Rattle.pbm_reader.specs.Held.{ReadsNothing};
+ghost use Rattle.pbm_reader.specs.declared.form.Form.TheVariants.{Raw};
 
 use crate::fault::PageFault;
 use crate::feed::Feed;
@@ -43,6 +46,9 @@ pub(crate) fn read_rows<S: Source, R: RowSink>(
     ensures low { IfErr result HasLowPlace }
     ensures top { IfErr result (λ fault. (first : SourceView) → Took first feed.old.source (magic form)
         → AfterFault R.begun R.given R.unchanged first feed.new.source rows.old rows.new fault) }
+    // Where what is held has the rows of a raw image whole, or decides a fault, nothing is read.
+    ensures held { form ≡ Raw → ReadsNothing feed.old feed.new (2 + length feed.old.unread) result
+        ⊎ AreUndecided (magic form ++ feed.old.unread) }
     ensures drained { result ≡ Err PageFault.ReadFault → feed.new.unread ≡ [] }
     ensures same { feed.new.borrow ≡ feed.old.borrow }
     ensures cause { HasReadCause feed.old.source feed.new.source result }

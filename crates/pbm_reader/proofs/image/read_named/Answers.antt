@@ -1,9 +1,12 @@
-use Rattle.std.proofs.Common.{sym, subst}
+use Rattle.std.proofs.Common.{◌++◌, sym, subst}
 use Rattle.std.proofs.lemmas.Result.{err_from_is_err_and}
 use Rattle.pbm_reader.specs.declared.form.Form.{Form}
 use Rattle.pbm_reader.specs.Tail.{TailFails}
 use Rattle.pbm_reader.proofs.TopRows.{rows_top}
 use Rattle.pbm_reader.proofs.ImageRead.{read_fails, behind_fails, image_read, tail_low}
+use Rattle.pbm_reader.specs.Images.{AreUndecided}
+use Rattle.pbm_reader.specs.Spelling.{magic}
+use Rattle.pbm_reader.proofs.Held.{kept_held}
 use Rattle.pbm_reader.proofs.image.read_named.Goals as goal
 
 pub returns-in_err-read-clause-fault : goal.returns-in_err-read-clause-fault
@@ -37,3 +40,19 @@ returns-clause-image g c =
     let e = c.in_ok-read.ensures in
     λ first named. image_read g.R.RowSink.begun g.R.RowSink.given first c.read_rows.new.feed.source c.read_behind.new.feed.source c.in_ok-read.read c.args.form c.in_ok-len.len c.args.rows.now
     c.read_rows.new.rows e.form (e.ok first named) c.in_ok-len.ensures.ok
+
+-- ---- what is held
+
+pub returns-in_err-read-clause-held : goal.returns-in_err-read-clause-held
+returns-in_err-read-clause-held g c =
+    let p = err_from_is_err_and c.from_residual.result c.from_residual.ensures.1 in
+    rw (p.1, p.2) (λ raw. c.in_err-read.ensures.held raw)
+
+pub returns-in_err-len-clause-held : goal.returns-in_err-len-clause-held
+returns-in_err-len-clause-held g c = λ raw. let n = c.in_err-len.ensures.nothing raw in absurd n.1
+
+pub returns-clause-held : goal.returns-clause-held
+returns-clause-held g c =
+    let old = c.args.feed.now in
+    λ raw. let n = c.in_ok-len.ensures.nothing raw in
+    kept_held old c.read_rows.new.feed c.read_behind.new.feed (AreUndecided (magic c.args.form ++ old.unread)) n.0 (c.in_ok-read.ensures.held raw)

@@ -1,6 +1,8 @@
 use Rattle.std.proofs.Common.{◌∙◌, refl, arith}
 use Rattle.std.proofs.lemmas.Result.{err_from_is_err_and}
 use Rattle.pbm_reader.proofs.EitherForm.{giving_none, giving_low, giving_more, giving_fails, giving_whole, giving_stops, giving_refused}
+use Rattle.packed_rows.specs.Page.{row_len}
+use Rattle.pbm_reader.proofs.Held.{held_row, held_row_fails, held_rows, no_held_rows}
 use Rattle.pbm_reader.proofs.raster.read_raster.Goals as goal
 
 pub loop-y-init : goal.loop-y-init
@@ -11,6 +13,7 @@ loop-y-init g c =
       buffer = c.in_ok-row.ensures.len ∙ c.row_len-len.ensures;
       width = c.requires.width;
       height = omega (arith, c.requires.rows);
+      held = λ raw. no_held_rows c.args.feed.now header.size.height (row_len header.size.width);
       same = refl;
       later = omega arith;
     }
@@ -30,6 +33,8 @@ loop-y-preserved g c =
       buffer = c.loop-y.invariant.buffer;
       width = c.in_ok-at.ensures.width;
       height = omega (arith, c.in_ok-at.ensures.rows, c.loop-y.invariant.height);
+      held = λ raw. held_row c.args.feed.now c.loop-y.feed c.read_row.new.feed c.loop-y._y header.size.height (row_len header.size.width) c.in_ok-at.at (c.loop-y.invariant.held raw) (omega arith)
+          (c.in_ok-at.ensures.held raw);
       same = c.read_row.ensures.same ∙ c.loop-y.invariant.same;
       later = omega arith;
     }
@@ -59,3 +64,15 @@ returns-clause-ok g c =
     let header = c.args.header in
     giving_whole g.R.RowSink.given c.args.feed.now.source header.len header.size.width header.size.height c.args.rows.now header.form c.loop-y.feed.source c.loop-y.at c.loop-y._y c.loop-y.rows
     c.loop-y.invariant.giving (omega arith) c.requires.size c.requires.short
+
+pub returns-in_err-at-clause-held : goal.returns-in_err-at-clause-held
+returns-in_err-at-clause-held g c =
+    let p = err_from_is_err_and c.from_residual-in_err-at.result c.from_residual-in_err-at.ensures.1 in
+    let header = c.args.header in
+    rw (p.1, p.2) (λ raw. held_row_fails c.args.feed.now c.loop-y.feed c.read_row.new.feed c.loop-y._y header.size.height (row_len header.size.width) c.in_err-at.field-0.0 (c.loop-y.invariant.held raw)
+    (omega arith) (c.in_err-at.ensures.held raw))
+
+pub returns-clause-held : goal.returns-clause-held
+returns-clause-held g c =
+    let header = c.args.header in
+    λ raw. held_rows c.args.feed.now c.loop-y.feed c.loop-y._y header.size.height (row_len header.size.width) c.loop-y.at (c.loop-y.invariant.held raw) (omega arith)

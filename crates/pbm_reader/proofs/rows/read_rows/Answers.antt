@@ -1,4 +1,4 @@
-use Rattle.std.proofs.Common.{refl, ap, Err, arith}
+use Rattle.std.proofs.Common.{ℕ, ◌++◌, refl, ap, Result, Ok, Err, arith}
 use Rattle.std.specs.Io.KnownBytes.{prepend_known}
 use Rattle.std.proofs.lemmas.Result.{err_from_is_err_and}
 use Rattle.layout_outside.specs.Views.{SourceView}
@@ -7,6 +7,8 @@ use Rattle.pbm_reader.specs.declared.form.Form.{Form}
 use Rattle.pbm_reader.specs.Spelling.{magic}
 use Rattle.pbm_reader.proofs.TopRows.{top_rows}
 use Rattle.pbm_reader.proofs.ImageRead.{header_fails, rows_fail, memory_fails, header_low, raster_low}
+use Rattle.pbm_reader.specs.Images.{AreUndecided}
+use Rattle.pbm_reader.proofs.Held.{begin_held, rows_held}
 use Rattle.pbm_reader.proofs.rows.read_rows.Goals as goal
 
 -- a source before the name was taken
@@ -74,3 +76,29 @@ returns-clause-ok g c =
       begins = c.in_ok-begin.ensures.ok;
       raster = c.in_ok-end.ensures.ok;
     }
+
+-- ---- what is held
+
+pub returns-in_err-header-clause-held : goal.returns-in_err-header-clause-held
+returns-in_err-header-clause-held g c =
+    let p = err_from_is_err_and c.from_residual.result c.from_residual.ensures.1 in
+    rw (p.1, p.2) (λ raw. c.in_err-header.ensures.stays)
+
+pub returns-in_err-begin-clause-held : goal.returns-in_err-begin-clause-held
+returns-in_err-begin-clause-held g c =
+    let p = err_from_is_err_and c.from_residual-in_err-begin.result c.from_residual-in_err-begin.ensures.1 in
+    let old = c.args.feed.now in
+    rw (p.1, p.2) (λ raw. begin_held old c.read_sizes.new.feed c.args.form c.in_ok-header.header (AreUndecided (magic c.args.form ++ old.unread)) c.in_ok-header.ensures.held)
+
+pub returns-in_err-end-clause-held : goal.returns-in_err-end-clause-held
+returns-in_err-end-clause-held g c =
+    let p = err_from_is_err_and c.from_residual-in_err-end.result c.from_residual-in_err-end.ensures.1 in
+    let read : Result ℕ PageFault = Err c.in_err-end.field-0.0 in
+    rw (p.1, p.2) (λ raw. rows_held c.args.feed.now c.read_sizes.new.feed c.read_raster.new.feed c.args.form c.in_ok-header.header read c.in_ok-header.ensures.form raw c.in_ok-header.ensures.held
+    c.in_err-end.ensures.held)
+
+pub returns-clause-held : goal.returns-clause-held
+returns-clause-held g c =
+    let read : Result ℕ PageFault = Ok c.in_ok-end.end in
+    λ raw. rows_held c.args.feed.now c.read_sizes.new.feed c.read_raster.new.feed c.args.form c.in_ok-header.header read c.in_ok-header.ensures.form raw c.in_ok-header.ensures.held
+    c.in_ok-end.ensures.held

@@ -21,6 +21,31 @@ loop-at-preserved g c =
     record {
       took = took_more old middle new (take at buf) (take count part) c.loop-at.invariant.took c.in_ok-count.ensures.bytes ∙ ap (λ (l : List ℕ). prepend_known l new.left) (sym front);
       within = omega (arith, length-append (take at buf) (part ++ after), length-append part after, length-take-le at buf inside, c.in_ok-count.ensures.bound);
+      held = λ enough.
+          let k = c.loop-at.invariant.held enough in
+          let h = c.in_ok-count.ensures.held (omega (arith, k.1, enough)) in
+          (h.0 ∙ k.0, omega (arith, k.1, h.2.1));
       same = c.next_bytes.ensures.same ∙ c.loop-at.invariant.same;
       later = omega arith;
     }
+
+pub returns-in_err-count-clause-held : goal.returns-in_err-count-clause-held
+returns-in_err-count-clause-held g c =
+    λ enough.
+    let k = c.loop-at.invariant.held enough in
+    let h = c.in_err-count.ensures.held (omega (arith, k.1, enough)) in
+    absurd h.1
+
+pub returns-then-count-eq0-clause-held : goal.returns-then-count-eq0-clause-held
+returns-then-count-eq0-clause-held g c =
+    λ enough.
+    let k = c.loop-at.invariant.held enough in
+    let h = c.in_ok-count.ensures.held (omega (arith, k.1, enough)) in
+    let some = h.2.0 in
+    absurd (omega (arith, some))
+
+pub returns-clause-held : goal.returns-clause-held
+returns-clause-held g c =
+    λ enough.
+    let k = c.loop-at.invariant.held enough in
+    (k.0, tt, (omega arith, k.1))

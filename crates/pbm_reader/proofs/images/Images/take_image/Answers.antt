@@ -1,6 +1,7 @@
 use Rattle.std.proofs.Common.{refl, rules}
 use Rattle.std.proofs.lemmas.Result.{err_from_is_err_and}
 use Rattle.pbm_reader.proofs.NextCall.{holding, call_past, call_past_top, call_failed, call_failed_top, call_fault, call_top, call_image, call_none}
+use Rattle.pbm_reader.proofs.HeldNext.{call_settled}
 use Rattle.pbm_reader.proofs.images.Images.take_image.Goals as goal
 
 pub returns-in_err-goes_past-clause-fault : goal.returns-in_err-goes_past-clause-fault
@@ -52,3 +53,18 @@ returns-clause-top g c =
     let n = c.in_ok-goes_past.ensures in
     call_top c.args.self.now c.read_within-answer.ensures.reads c.self.view_is refl c.self.invariant.0 c.requires.few (holding c.goes_past.new.piece.unread) c.goes_past.ensures.unread
     (g.S.Source.view c.goes_past.new.src) (n.none (search rules)) (n.ended (search rules)) c.counted_from.result c.counted_from.ensures
+
+pub returns-in_err-goes_past-clause-settled : goal.returns-in_err-goes_past-clause-settled
+returns-in_err-goes_past-clause-settled g c =
+    λ some. call_settled _ c.args.self.now _ c.args.src.now c.read_within-answer.new.src c.goes_past.new.src _ c.self.view_is refl c.self.invariant.0 c.requires.few some
+    c.read_within-answer.ensures.held c.goes_past.ensures.quiet
+
+pub returns-then-branch-clause-settled : goal.returns-then-branch-clause-settled
+returns-then-branch-clause-settled g c =
+    λ some. call_settled _ c.args.self.now _ c.args.src.now c.read_within-answer.new.src c.goes_past.new.src _ c.self.view_is refl c.self.invariant.0 c.requires.few some
+    c.read_within-answer.ensures.held c.goes_past.ensures.quiet
+
+pub returns-clause-settled : goal.returns-clause-settled
+returns-clause-settled g c =
+    λ some. call_settled _ c.args.self.now _ c.args.src.now c.read_within-answer.new.src c.goes_past.new.src _ c.self.view_is refl c.self.invariant.0 c.requires.few some
+    c.read_within-answer.ensures.held c.goes_past.ensures.quiet
