@@ -4,7 +4,7 @@ ghost use Rattle.split_frontier.specs.Callers.{IsOwn};
 ghost use Rattle.split_frontier.specs.Claims.{unspent, spent};
 
 use super::pages::{RIGHT, Sides, corner_block, shape_of};
-use box_search::{Lease, Take, beginning};
+use box_search::{Lease, Space, Take, beginning};
 use frontier_turn::DividesPasses;
 use search_trials::ShardHand;
 use split_frontier::{Shards, SplitPass};
