@@ -18,9 +18,9 @@ use std::sync::Wait;
 use std::thread::Threads;
 use whitespace_cover::White;
 
-/// How many boxes of a search are opened before workers are asked for. The searches of an ordinary page end sooner, and to
+/// How many boxes of a search are opened before workers are asked for. Most searches of a page end sooner, and to
 /// begin threads and join them costs more than such a search.
-const HEAD_START: u32 = 4_000;
+const HEAD_START: u32 = 200;
 
 /// The greatest admitted key, or 0 exactly where no key is admitted: found on this thread where it is to be one worker or
 /// where that takes few boxes, and else by workers, who go on from the boxes that are open then.
