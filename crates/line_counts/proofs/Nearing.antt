@@ -4,7 +4,7 @@ use Rattle.std.specs.List.{sum_by}
 use Rattle.std.specs.Int.{int_gap}
 use Rattle.std.proofs.Math.Nat.{mul-le-mul}
 use Rattle.std.proofs.lemmas.Int.{ints}
-use Rattle.std.proofs.lemmas.List.Sums.{count_by-le-length, sum_by-le-sum_by}
+use Rattle.std.proofs.lemmas.List.Sums.{count_by-le-length}
 use Rattle.std.proofs.lemmas.Bool.Decides.{nat_tests}
 use Rattle.layout_geom.specs.declared.rect.Rect.{Rect}
 use Rattle.line_quality.specs.Points.{IsSlope, rise, middle_of, weight_at}
@@ -141,10 +141,6 @@ module _ (boxes gutters : List Rect) (slope from : ℤ) (more segment : ℕ) (in
           → total ≡ near_before boxes gutters slope from more segment (first_place from + next) positions
       at_next behind next total same there = there ∙ ap (λ (n : ℕ). near_before boxes gutters slope from more segment (first_place from + n) positions) same
 
-cond_less : (b : Bool) (w : ℕ) → cond b w 0 ≤ w
-cond_less true w = omega arith
-cond_less false w = omega arith
-
 cond_low : (b : Bool) (w : ℕ) → w ≤ 25 → cond b w 0 ≤ 25
 cond_low true w low = low
 cond_low false w low = omega arith
@@ -215,11 +211,3 @@ module _ (boxes gutters : List Rect) (slope from : ℤ) (more : ℕ) where
       same_sum (λ position. cond (is_among gutters n (slice_get boxes position)) (plain_weight (lines_of slope from 1 more) (slice_get boxes position)) 0)
       (λ position. plain_weight (lines_of slope from 1 more) (slice_get boxes position))
       (λ position. every_among n all (slice_get boxes position)) positions
-
-  -- the first segments have no more than all
-  pub among_least : (n : ℕ) (positions : List ℕ) → near_among boxes gutters slope from more n positions
-      ≤ sum_by (λ position. plain_weight (lines_of slope from 1 more) (slice_get boxes position)) positions
-  among_least n positions =
-      sum_by-le-sum_by (λ position. cond (is_among gutters n (slice_get boxes position)) (plain_weight (lines_of slope from 1 more) (slice_get boxes position)) 0)
-      (λ position. plain_weight (lines_of slope from 1 more) (slice_get boxes position)) positions
-      (λ position. cond_less (is_among gutters n (slice_get boxes position)) (plain_weight (lines_of slope from 1 more) (slice_get boxes position)))

@@ -27,7 +27,7 @@ fn common_weight(depth: u8, behind: u8) -> u32
 fn both_bells(bells: &[u32], depth: u8) -> [u32; BATCH as usize]
     requires long { length bells.now ≡ MAX_TOPS }
     requires depth { depth ≤ MAX_DEPTH }
-    requires small { (place : ℕ) → slice_index bells.now place ≤ 2000000000 }
+    requires small { (place : ℕ) → slice_index bells.now place ≤ 1000000000 }
     ensures long { length result ≡ BATCH }
     ensures value { (more : ℕ) → more < BATCH → slice_index result more ≡ slice_index bells.now more + slice_index bells.now (more + depth) }
 {

@@ -1,9 +1,11 @@
-use Rattle.std.proofs.Common.{◌≡◌, ◌+◌, ◌<◌, ℕ, List, length, get_or, inl, inr, arith, ap, sym, subst}
+use Rattle.std.proofs.Common.{◌≡◌, ◌+◌, ◌*◌, ◌<◌, ◌≤◌, ◌+ℤ◌, pos, ℕ, List, length, get_or, inl, inr, arith, ap, ◌∙◌, sym, subst, refl}
+use Rattle.line_counts.specs.Fits.{column_of_segment}
 use Rattle.line_counts.specs.Tops.{of_column, count_behind}
+use Rattle.line_counts.specs.declared.stretch.Stretch.{Stretch}
 use Rattle.line_counts.specs.Table.{LivingPage}
+use Rattle.line_counts.proofs.Counting.{zero_at}
 use Rattle.line_counts.proofs.Summing.{of_none}
-use Rattle.line_counts.proofs.Bounding.{IsCovered, all_passed, covered_more}
-use Rattle.line_counts.proofs.Running.{AreRunning, column_at, reach_of, none_yet, begin_anew, room_for, run_on}
+use Rattle.line_counts.proofs.Bounding.{IsCovered, all_passed, covered_more, next_column, of_empty, columns_grow}
 use Rattle.line_counts.proofs.Heaviest.{score_low}
 use Rattle.line_counts.proofs.counts.Counts.most_of.Goals as goal
 use Rattle.line_counts.proofs.counts.Counts.most_of.Goals.{then-cuts-of_segment, else-cuts-of_segment}
@@ -12,63 +14,99 @@ pub loop-of_segment-init : goal.loop-of_segment-init
 loop-of_segment-init c =
     let page : LivingPage = c.args.self.now in
     let stretch = c.args.stretch.now in
+    let col : ℕ → ℕ → ℕ = λ more s. column_of_segment stretch.slope (stretch.from +ℤ pos more) page.gutters s in
+    let amount : ℕ → ℕ → ℕ = λ place s. count_behind page stretch place s in
     record {
-      running = none_yet page stretch;
-      covered = λ more k less. inr (λ place within. omega (arith, of_none (λ s. column_at page stretch more s) (λ s. count_behind page stretch place s) k));
+      long_sums = refl;
+      small_sums = λ k. omega (arith, zero_at 136 k);
+      sums = λ more place less within. omega (arith, of_none (col more) (amount place) (col more 0));
+      covered = λ more k less. inr (λ place within. omega (arith, of_none (col more) (amount place) k));
     }
+
+-- the sums before the counts of a segment are added
+record IsReady (page : LivingPage) (stretch : Stretch) (all n most : ℕ) (sums : List ℕ) : Type 0 where
+  pub long : length sums ≡ 136
+  pub small : (k : ℕ) → get_or sums k 0 ≤ n * 65535
+  pub enough : (more place : ℕ) → more < stretch.offsets → place < all
+      → of_column (λ s. column_of_segment stretch.slope (stretch.from +ℤ pos more) page.gutters s) (λ s. count_behind page stretch place s)
+      (column_of_segment stretch.slope (stretch.from +ℤ pos more) page.gutters n) n ≤ get_or sums place 0
+  pub covered : (more k : ℕ) → more < stretch.offsets
+      → IsCovered (λ s. column_of_segment stretch.slope (stretch.from +ℤ pos more) page.gutters s) (λ place s. count_behind page stretch place s) all k n most sums
 
 pub add_counts-requires-clause-room : goal.add_counts-requires-clause-room
 add_counts-requires-clause-room c =
-    let page : LivingPage = c.args.self.now in
-    let stretch = c.args.stretch.now in
     let n = c.loop-of_segment.of_segment in
-    let running : AreRunning page stretch n c.if-cuts-of_segment.sums = elim c.if-cuts-of_segment.branch [
-      | then-cuts-of_segment w ↦ subst (AreRunning page stretch n) (sym w.sums-is) (begin_anew page stretch n (c.cuts-cuts.ensures n w.if-cuts-of_segment.true))
-      | else-cuts-of_segment w ↦ subst (AreRunning page stretch n) (sym w.sums-is) c.loop-of_segment.invariant.running
-    ] in
-    room_for page stretch n c.if-cuts-of_segment.sums c.as_mut_slice.result.now running c.as_mut_slice.ensures.value
-    (omega (arith, c.loop-of_segment-test.true, c.len-of_segment-end.ensures.value, c.self.invariant.countable.few_gutters))
+    let few : n ≤ 32 = omega (arith, c.loop-of_segment-test.true, c.len-of_segment-end.ensures.value, c.self.invariant.countable.few_gutters) in
+    λ place. elim c.if-cuts-of_segment.branch [
+      | then-cuts-of_segment w ↦
+          omega (
+            arith,
+            ap (λ (xs : List ℕ). get_or xs place 0) (c.as_mut_slice.ensures.value ∙ w.sums-is),
+            zero_at 136 place,
+          )
+      | else-cuts-of_segment w ↦
+          omega (
+            arith,
+            few,
+            ap (λ (xs : List ℕ). get_or xs place 0) (c.as_mut_slice.ensures.value ∙ w.sums-is),
+            c.loop-of_segment.invariant.small_sums place,
+          )
+    ]
 
 pub loop-of_segment-preserved : goal.loop-of_segment-preserved
 loop-of_segment-preserved c =
     let page : LivingPage = c.args.self.now in
     let stretch = c.args.stretch.now in
     let n = c.loop-of_segment.of_segment in
-    let all : ℕ = reach_of stretch in
+    let all : ℕ = stretch.offsets + stretch.deepest + 2 * 4 in
     let sums : List ℕ = c.if-cuts-of_segment.sums in
     let most : ℕ = c.if-cuts-of_segment.most in
-    let col : ℕ → ℕ → ℕ = λ more s. column_at page stretch more s in
+    let col : ℕ → ℕ → ℕ = λ more s. column_of_segment stretch.slope (stretch.from +ℤ pos more) page.gutters s in
     let amount : ℕ → ℕ → ℕ = λ place s. count_behind page stretch place s in
-    let running : AreRunning page stretch n sums = elim c.if-cuts-of_segment.branch [
-      | then-cuts-of_segment w ↦ subst (AreRunning page stretch n) (sym w.sums-is) (begin_anew page stretch n (c.cuts-cuts.ensures n w.if-cuts-of_segment.true))
-      | else-cuts-of_segment w ↦ subst (AreRunning page stretch n) (sym w.sums-is) c.loop-of_segment.invariant.running
-    ] in
-    let covered : (more k : ℕ) → more < stretch.offsets → IsCovered (col more) amount all k n most sums =
+    let ready : IsReady page stretch all n most sums =
     elim c.if-cuts-of_segment.branch [
-      | then-cuts-of_segment w ↦ λ more k less. inl (all_passed (col more) amount all k n c.loop-of_segment.most most c.loop-of_segment.sums
-          (omega (arith, w.most-is, w.max-most.ensures))
-          (λ m depth few deep. omega (arith, w.most-is, w.max-most.ensures, w.sums_most.ensures m depth few deep))
-          (c.loop-of_segment.invariant.covered more k less))
-      | else-cuts-of_segment w ↦ λ more k less.
-          subst (λ (m : ℕ). IsCovered (col more) amount all k n m sums) (sym w.most-is)
-          (subst (λ (xs : List ℕ). IsCovered (col more) amount all k n c.loop-of_segment.most xs) (sym w.sums-is) (c.loop-of_segment.invariant.covered more k less))
+      | then-cuts-of_segment w ↦ record {
+        long = ap (λ (xs : List ℕ). length xs) w.sums-is;
+        small = λ k. omega (arith, ap (λ (xs : List ℕ). get_or xs k 0) w.sums-is, zero_at 136 k);
+        enough = λ more place less within.
+            omega (arith, of_empty (col more) (amount place) (col more n) n (λ s before. c.cuts-cuts.ensures n w.if-cuts-of_segment.true more s less before));
+        covered = λ more k less. inl (all_passed (col more) amount all k n c.loop-of_segment.most most c.loop-of_segment.sums
+            (omega (arith, w.most-is, w.max-most.ensures))
+            (λ m depth few deep. omega (arith, w.most-is, w.max-most.ensures, w.sums_most.ensures m depth few deep))
+            (c.loop-of_segment.invariant.covered more k less));
+      }
+      | else-cuts-of_segment w ↦ record {
+        long = ap (λ (xs : List ℕ). length xs) w.sums-is ∙ c.loop-of_segment.invariant.long_sums;
+        small = λ k. omega (arith, ap (λ (xs : List ℕ). get_or xs k 0) w.sums-is, c.loop-of_segment.invariant.small_sums k);
+        enough = λ more place less within. omega (arith, ap (λ (xs : List ℕ). get_or xs place 0) w.sums-is, c.loop-of_segment.invariant.sums more place less within);
+        covered = λ more k less.
+            subst (λ (m : ℕ). IsCovered (col more) amount all k n m sums) (sym w.most-is)
+            (subst (λ (xs : List ℕ). IsCovered (col more) amount all k n c.loop-of_segment.most xs) (sym w.sums-is) (c.loop-of_segment.invariant.covered more k less));
+      }
     ] in
+    let given : (k : ℕ) → get_or c.as_mut_slice.result.now k 0 ≡ get_or sums k 0 = λ k. ap (λ (xs : List ℕ). get_or xs k 0) c.as_mut_slice.ensures.value in
     record {
-      running = run_on page stretch n sums c.as_mut_slice.result.now c.add_counts.new.sums running c.as_mut_slice.ensures.value c.add_counts.ensures.long c.add_counts.ensures.more c.add_counts.ensures.small;
+      long_sums = c.add_counts.ensures.long;
+      small_sums = λ k. omega (arith, given k, c.add_counts.ensures.small k, ready.small k);
+      sums = λ more place less within.
+          next_column (col more) (amount place) (λ a b order. columns_grow stretch.slope (stretch.from +ℤ pos more) page.gutters a b order) n (get_or sums place 0)
+          (get_or c.add_counts.new.sums place 0)
+          (omega (arith, c.add_counts.ensures.more place within, given place))
+          (ready.enough more place less within);
       covered = λ more k less.
           covered_more (col more) amount all k n most sums c.add_counts.new.sums
-          (λ place within. omega (arith, c.add_counts.ensures.more place within, ap (λ (xs : List ℕ). get_or xs place 0) c.as_mut_slice.ensures.value))
-          (λ place within. running.enough more place less within)
-          (covered more k less);
+          (λ place within. omega (arith, c.add_counts.ensures.more place within, given place))
+          (λ place within. ready.enough more place less within)
+          (ready.covered more k less);
     }
 
 pub returns-clause-over : goal.returns-clause-over
 returns-clause-over c =
     let page : LivingPage = c.args.self.now in
     let stretch = c.args.stretch.now in
-    let all : ℕ = reach_of stretch in
+    let all : ℕ = stretch.offsets + stretch.deepest + 2 * 4 in
     let n = c.loop-of_segment.of_segment in
-    let col : ℕ → ℕ → ℕ = λ more s. column_at page stretch more s in
+    let col : ℕ → ℕ → ℕ = λ more s. column_of_segment stretch.slope (stretch.from +ℤ pos more) page.gutters s in
     let amount : ℕ → ℕ → ℕ = λ place s. count_behind page stretch place s in
     let gutters_are : length c.self.inside.gutters ≡ length page.gutters = ap (λ (p : LivingPage). length p.gutters) c.self.view_is in
     let last : n ≡ length page.gutters + 1 =

@@ -1,12 +1,12 @@
 use Rattle.std.proofs.Common.{◌≡◌, ◌+◌, ◌*◌, ◌<◌, ◌≤◌, min, ℕ, List, arith, sym, subst}
 use Rattle.line_counts.specs.Tops.{weighed}
 use Rattle.line_counts.proofs.Summing.{weighs_less, weighs_all, bell_small}
-use Rattle.line_counts.proofs.rough.part_most.Goals as goal
+use Rattle.line_counts.proofs.greatest.part_most.Goals as goal
 
 inside : (more depth : ℕ) → more < 64 → depth ≤ 63 → (more < 128) × (more + depth < 128) × (more + (2 * 4 + depth + 1) ≤ 136)
 inside more depth less deep = (omega (arith, less), omega (arith, less, deep), omega (arith, less, deep))
 
-lesser : (weight bell one other total twice all result : ℕ) → weight ≤ one + other → one ≤ bell → other ≤ bell → one ≤ 2000000000 → other ≤ 2000000000
+lesser : (weight bell one other total twice all result : ℕ) → weight ≤ one + other → one ≤ bell → other ≤ bell → one ≤ 1000000000 → other ≤ 1000000000
     → weight ≤ 25 * total → twice ≡ min (bell * 2) 4294967295 → all ≡ min (total * 25) 4294967295 → result ≡ min twice all → weight ≤ result
 lesser weight bell one other total twice all result low first second small_one small_other few twice_is all_is is = omega (arith, low, first, second, small_one, small_other, few, twice_is, all_is, is)
 

@@ -1,12 +1,12 @@
 use Rattle.std.proofs.Common.{◌≡◌, ◌+◌, ◌*◌, ◌<◌, ◌≤◌, min, ℕ, List, arith, sym, subst}
 use Rattle.line_counts.specs.Tops.{weighed}
 use Rattle.line_counts.proofs.Summing.{weighs_less, weighs_all, bell_small}
-use Rattle.line_counts.proofs.rough.sums_most.Goals as goal
+use Rattle.line_counts.proofs.greatest.sums_most.Goals as goal
 
 inside : (more depth : ℕ) → more < 64 → depth ≤ 63 → more + (2 * 4 + depth + 1) ≤ 136
 inside more depth less deep = omega (arith, less, deep)
 
-no_more : (weight one other total all : ℕ) → weight ≤ one + other → one ≤ 2000000000 → other ≤ 2000000000 → weight ≤ 25 * total → all ≡ min (total * 25) 4294967295 → weight ≤ all
+no_more : (weight one other total all : ℕ) → weight ≤ one + other → one ≤ 1000000000 → other ≤ 1000000000 → weight ≤ 25 * total → all ≡ min (total * 25) 4294967295 → weight ≤ all
 no_more weight one other total all low small_one small_other few all_is = omega (arith, low, small_one, small_other, few, all_is)
 
 pub returns-then-all-least : goal.returns-then-all-least
