@@ -1,5 +1,5 @@
 -- The header's machine reads just the headers.
-use Rattle.std.proofs.Common.{lit<, ◌≡◌, ℕ, ◌⊎◌, min, Bool, true, false, cond, eqb, List, [], ◌∷◌, ◌++◌, Option, Some, None, option_and_then, option_map, refl, sym, ap, subst, ◌∙◌, append_assoc, inl, inr, arith}
+use Rattle.std.proofs.Common.{lit<, ◌≡◌, ℕ, ◌⊎◌, min, Bool, true, false, cond, eqb, List, [], ◌∷◌, ◌++◌, Option, Some, None, option_map, refl, sym, ap, subst, ◌∙◌, append_assoc, inl, inr, arith}
 use Rattle.std.proofs.lemmas.Bool.Decides.{nat_tests}
 use Rattle.pbm_reader.specs.declared.form.Form.{Form}
 use Rattle.pbm_reader.specs.declared.form.Form.TheVariants.{Plain, Raw}
@@ -7,7 +7,7 @@ use Rattle.pbm_reader.specs.declared.state.HeaderState.{HeaderState}
 use Rattle.pbm_reader.specs.declared.state.HeaderState.TheVariants.{Magic, Kind, Named, WidthGap, WidthComment, Width, HeightGap, HeightComment, Height, Whole}
 use Rattle.pbm_reader.specs.Spelling.{is_white, is_line_end, is_digit, magic, IsWhite, IsNumber, IsHeader, IsSomeHeader, value_from}
 use Rattle.pbm_reader.specs.Header.{longer, with_digit, in_gap, next_state}
-use Rattle.pbm_reader.proofs.Machines.{run, Machine, Completes, IsRead}
+use Rattle.pbm_reader.proofs.Machines.{carried_back, run, Machine, Completes, IsRead}
 use Rattle.pbm_reader.proofs.Gaps.{AfterBlank, AfterComment, AfterGap, AfterDigits, AfterNumber, ReadsGaps, blank_here, gap_blank, gap_white, gap_comment, comment_more, comment_end, gap_of, told_from, told_value, digits_here, digits_more, number_first, run_gap, run_number, digit_not_white, digit_no_hash, gap_white_step, comment_end_step, comment_more_step, some_is, none_some, tested, gap_tested}
 
 -- ---- the machine
@@ -299,13 +299,7 @@ whole_here t s e w =
     subst (λ (k : HeaderState). Rest t k []) (sym (e ∙ is.3)) ended
 
 ends_header : (bytes : List ℕ) (s t : HeaderState) → run next_state s bytes ≡ Some t → is_whole t ≡ true → Rest t s bytes
-ends_header [] s t e w = whole_here t s (some_is s t e) w
-ends_header (byte ∷ bytes) s t e w = cases (λ n r. ends_header bytes n t r w) (next_state s byte) refl e
-  where
-    cases : ((n : HeaderState) → run next_state n bytes ≡ Some t → Rest t n bytes) → (o : Option HeaderState) → next_state s byte ≡ o
-        → option_and_then (λ n. run next_state n bytes) o ≡ Some t → Rest t s (byte ∷ bytes)
-    cases again None p q = absurd (none_some t q)
-    cases again (Some n) p q = one_back t s n byte bytes p (again n q)
+ends_header bytes s t e w = carried_back next_state t (Rest t) (λ s is. whole_here t s is w) (one_back t) bytes s e
 
 -- the header that was read, and its sizes
 pub record ReadHeader (bytes : List ℕ) (t : HeaderState) : Type 0 where

@@ -8,7 +8,7 @@ use Rattle.pbm_reader.specs.declared.plain.PixelStep.TheVariants.{Blank, Found, 
 use Rattle.pbm_reader.specs.Spelling.{is_white, is_line_end, AreInLine, IsBlank, SpellsPixels, IsRaster}
 use Rattle.pbm_reader.specs.Header.{in_gap, in_comment}
 use Rattle.pbm_reader.specs.Plain.{pixel_step, IsBlankPart, PixelsBegun}
-use Rattle.pbm_reader.proofs.Machines.{run, run_append, Machine, Completes, IsRead, IsOpen}
+use Rattle.pbm_reader.proofs.Machines.{carried_back, run, run_append, Machine, Completes, IsRead, IsOpen}
 use Rattle.pbm_reader.proofs.Gaps.{AfterBlank, AfterComment, ReadsGaps, blank_here, gap_blank, gap_white, gap_comment, comment_more, comment_end, run_blank, gap_white_step, comment_end_step, comment_more_step, some_is, none_some, tested, gap_tested}
 
 -- all pixels were read; or they were not, so many are wanted behind the next one, and a comment has begun or not
@@ -193,13 +193,7 @@ done_here t s e d = cases s e (subst (λ (k : RasterState). is_done k ≡ true) 
     cases (comment n pixels) e d = absurd cc
 
 ends_raster : (bytes : List ℕ) (s t : RasterState) → run raster_step s bytes ≡ Some t → is_done t ≡ true → Rest t s bytes
-ends_raster [] s t e d = done_here t s (some_is s t e) d
-ends_raster (byte ∷ bytes) s t e d = cases (λ n r. ends_raster bytes n t r d) (raster_step s byte) refl e
-  where
-    cases : ((n : RasterState) → run raster_step n bytes ≡ Some t → Rest t n bytes) → (o : Option RasterState) → raster_step s byte ≡ o
-        → option_and_then (λ n. run raster_step n bytes) o ≡ Some t → Rest t s (byte ∷ bytes)
-    cases again None p q = absurd (none_some t q)
-    cases again (Some n) p q = one_back t s n byte bytes p (again n q)
+ends_raster bytes s t e d = carried_back raster_step t (Rest t) (λ s is. done_here t s is d) (one_back t) bytes s e
 
 pub read_pixels : (count : ℕ) (bytes : List ℕ) (t : RasterState) → run raster_step (wanted count []) bytes ≡ Some t → is_done t ≡ true → Spelled t count [] bytes
 read_pixels count bytes t e d = spelled_of t count [] bytes (ends_raster bytes (wanted count []) t e d)
