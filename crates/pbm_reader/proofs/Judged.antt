@@ -127,17 +127,14 @@ is_cut faults.ReadFault = inr (λ k e. absurd cc)
 is_cut faults.Memory = inr (λ k e. absurd cc)
 
 pub judged : (input : List ℕ) → IsPage input ⊎ ((fault : PageFault) × HasFault input fault)
-judged input = short_or_longer P 268435456 of_short (λ front behind len more. inr (by_front front behind len more)) input
+judged input = short_or_longer P 268435456 (λ l short. of_short l (judged_within l short)) (λ front behind len more. inr (by_front front behind len more)) input
   where
     P : List ℕ → Type 0
     P l = IsPage l ⊎ ((fault : PageFault) × HasFault l fault)
 
-    of_short : (input : List ℕ) → length input ≤ 268435456 → P input
-    of_short input short =
-        elim (judged_within input short) [
-          | inl p ↦ inl p
-          | inr f ↦ inr (f.0, has_fault input f.0 f.1)
-        ]
+    of_short : (input : List ℕ) → JudgedWithin input → P input
+    of_short input (inl p) = inl p
+    of_short input (inr f) = inr (f.0, has_fault input f.0 f.1)
 
     -- the fault of so many bytes, whether it is their end or not, with more behind them
     refused : (front behind : List ℕ) → length front ≡ 268435456 → 0 < length behind → (fault : PageFault) → HasFaultWithin front fault → (fault : PageFault) × HasFault (front ++ behind) fault
