@@ -1,5 +1,6 @@
 -- Why words have no plan: values that tell none.
-use Rattle.std.proofs.Common.{◌≡◌, ◌∙◌, ℕ, ap, sym, subst, codes, List, Option, Some, None}
+use Rattle.std.proofs.Common.{◌≡◌, ◌∙◌, ℕ, ap, sym, subst, codes, List, map, Option, Some, None}
+use Rattle.std.specs.Prelude.{is_some}
 use Rattle.command_words.specs.Items.{Text}
 use Rattle.command_words.specs.Values.{IsImageOf, IsNumberOf, IsSeedOf}
 use Rattle.command_words.specs.Plans.{AreApart, HasNoPlan, HasPlan, usual_workers, value_in}
@@ -9,27 +10,43 @@ use Rattle.command_words.specs.declared.plan.Plan.{Plan}
 use Rattle.layout_limits.specs.declared.TheConstants.{MAX_RECTS, MAX_WORKERS}
 use Rattle.command_words.specs.declared.plan.TheConstants.{USUAL_RECTS}
 use Rattle.command_words.specs.declared.plan.Program.{Program}
-use Rattle.command_words.proofs.Known.{one_items}
+use Rattle.command_words.specs.Strays.{told_word}
+use Rattle.command_words.proofs.Known.{one_options}
+use Rattle.command_words.proofs.Flags.{one_items, told_items}
 
 -- the plan's items are those of the values
-same_values : (program : Program) (words : List Text) (given : OptionTexts) (plan : Plan) (values : HasValues program words given) (has : HasPlan program words plan)
+same_values : (program : Program) (words : List Text) (given : OptionTexts) (plan : Plan) (values : HasValues program (map told_word words) given) (has : HasPlan program words plan)
     → has.items ≡ values.items
-same_values program words given plan values has = one_items program words has.items values.items has.spelled values.spelled
+same_values program words given plan values has =
+    one_options program (map told_word words) has.items values.items (told_items program words has.items has.spelled) values.spelled
 
 -- The words have no plan, where what a plan says of the value of an option holds of none that was given.
-pub no_plan : (program : Program) (words : List Text) (given : OptionTexts) (values : HasValues program words given) (Tells : Plan → Option Text → Type 0) (name : Text) (text : Option Text)
+pub no_plan : (program : Program) (words : List Text) (given : OptionTexts) (values : HasValues program (map told_word words) given) (Tells : Plan → Option Text → Type 0) (name : Text) (text : Option Text)
     → text ≡ value_in values.items name → ((plan : Plan) (has : HasPlan program words plan) → Tells plan (value_in has.items name))
     → ((plan : Plan) → Tells plan text → ⊥) → HasNoPlan program words
 no_plan program words given values Tells name text is told none plan has =
     none plan (subst (Tells plan) (sym is) (subst (λ items. Tells plan (value_in items name)) (same_values program words given plan values has) (told plan has)))
 
-pub not_apart : (program : Program) (words : List Text) (given : OptionTexts) → HasValues program words given
-    → (AreApart (text_of given.image) (text_of given.make) → ⊥) → HasNoPlan program words
-not_apart program words given values both plan has =
+-- Nor have words with a seed where an image, or the flag, is given too.
+apart_from_seed : (program : Program) (words : List Text) (given : OptionTexts) (values : HasValues program (map told_word words) given) (name : Text) (text : Option Text)
+    → text ≡ value_in values.items name
+    → ((plan : Plan) (has : HasPlan program words plan) → AreApart (value_in has.items name) (value_in has.items (codes "make")))
+    → (AreApart text (text_of given.make) → ⊥) → HasNoPlan program words
+apart_from_seed program words given values name text is told both plan has =
     both
-    (subst (λ v. AreApart v (text_of given.make)) (sym values.image)
-    (subst (λ v. AreApart (value_in values.items (codes "image")) v) (sym values.make)
-    (subst (λ is. AreApart (value_in is (codes "image")) (value_in is (codes "make"))) (same_values program words given plan values has) has.apart)))
+    (subst (λ v. AreApart v (text_of given.make)) (sym is)
+    (subst (λ v. AreApart (value_in values.items name) v) (sym values.make)
+    (subst (λ is. AreApart (value_in is name) (value_in is (codes "make"))) (same_values program words given plan values has) (told plan has))))
+
+pub not_apart : (program : Program) (words : List Text) (given : OptionTexts) → HasValues program (map told_word words) given
+    → (AreApart (text_of given.image) (text_of given.make) → ⊥) → HasNoPlan program words
+not_apart program words given values both =
+    apart_from_seed program words given values (codes "image") (text_of given.image) values.image (λ plan has. has.apart) both
+
+pub flag_not_apart : (program : Program) (words : List Text) (given : OptionTexts) → HasValues program (map told_word words) given
+    → (AreApart (text_of given.words) (text_of given.make) → ⊥) → HasNoPlan program words
+flag_not_apart program words given values both =
+    apart_from_seed program words given values (codes "words") (text_of given.words) values.flag (λ plan has. has.words_apart) both
 
 -- a value tells one number at most, one name, and one seed
 one_number : (value : Option Text) (usual least most n m : ℕ) → IsNumberOf value usual least most n → IsNumberOf value usual least most m → n ≡ m
@@ -55,4 +72,5 @@ one_plan program words p q has_p has_q =
     (subst (λ is. IsImageOf (value_in is (codes "image")) p.image) same has_p.image) has_q.image in
     let make = one_seed (value_in has_q.items (codes "make")) p.make q.make
     (subst (λ is. IsSeedOf (value_in is (codes "make")) p.make) same has_p.make) has_q.make in
-    λ i. record { rects = rects i; workers = workers i; image = image i; make = make i }
+    let shows : p.words ≡ q.words = has_p.shows_words ∙ ap (λ is. is_some (value_in is (codes "words"))) same ∙ sym has_q.shows_words in
+    λ i. record { rects = rects i; workers = workers i; image = image i; make = make i; words = shows i }

@@ -13,7 +13,8 @@ use Rattle.clap.specs.Kinds.{or_else}
 use Rattle.clap.specs.Walk.{Held, reacted, settled, used, walked}
 use Rattle.clap.specs.Faults.{settle_fault, turn_fault, use_fault, walk_fault}
 use Rattle.clap.specs.declared.error.kind.ErrorKind.TheVariants as kinds
-use Rattle.command_words.specs.Items.{Text, Item, SpellsItem, SpellsItems, begins_with_hyphen}
+use Rattle.command_words.specs.Items.{Text, Item, SpellsOption, begins_with_hyphen}
+use Rattle.command_words.specs.Givens.{SpellsOptions}
 use Rattle.command_words.specs.Strays.{is_stray}
 use Rattle.command_words.proofs.Walking.{at_item, at_value, expects, expecting_faults, faults_from, first_none, has_item, holds, is_known, is_new, is_option, long_word, missing_value, name_in, next_faults, no_fault_here, read_items, ready, rows_for, same_text, second_none, settle_faults, settles, shape_with, stray_value, text_is_itself, together_faults, together_walked, unknown_faults, use_faults, used_new, value_faults, value_of, value_walked, apart_faults, apart_walked}
 use Rattle.command_words.proofs.Reading.{IsLong, at_sign, plain_or_long, whole_name}
@@ -59,7 +60,7 @@ new_from_once items item rest once = go (has_item items item.name) refl
 -- the words spell items that go on with those so far
 pub record ReadsOn (names : List Text) (so_far : List Item) (words : List Text) : Type 0 where
   pub items : List Item
-  pub spelled : SpellsItems items words
+  pub spelled : SpellsOptions items words
   pub known : All (λ item. is_option names item.name ≡ true) items
   pub once : AreOnce (so_far ++ items)
 
@@ -123,7 +124,7 @@ found_nothing names = record {
 
 -- one more item in front, in one word
 with_item : (names : List Text) (so_far : List Item) (item : Item) (word : Text) (words : List Text) → is_option names item.name ≡ true
-    → SpellsItem item (word ∷ []) → ReadsOn names (so_far ++ item ∷ []) words → ReadsOn names so_far (word ∷ words)
+    → SpellsOption item (word ∷ []) → ReadsOn names (so_far ++ item ∷ []) words → ReadsOn names so_far (word ∷ words)
 with_item names so_far item word words known spells more = record {
   items = item ∷ more.items;
   spelled = (word ∷ [], words, refl, spells, more.spelled);

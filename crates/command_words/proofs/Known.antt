@@ -14,14 +14,14 @@ use Rattle.clap.specs.declared.error.kind.ErrorKind.TheVariants.{OutOfMemory}
 use Rattle.clap.specs.declared.parser.matches.ArgMatches.{ArgMatches}
 use Rattle.clap.proofs.WalkLemmas.{first_value-rows, list_any-map}
 use Rattle.std.specs.Borrow.{Bor}
-use Rattle.command_words.specs.Givens.{text_of}
+use Rattle.command_words.specs.Givens.{HasOptions, text_of}
 use Rattle.command_words.specs.declared.plan.WordFault.{WordFault}
 use Rattle.command_words.specs.declared.plan.WordFault.TheVariants.{Memory, Usage}
 use Rattle.clap.specs.Faults.{is_simple_and_free}
 use Rattle.command_words.specs.Items.{Text, Item}
-use Rattle.command_words.specs.Strays.{is_stray}
+use Rattle.command_words.specs.Strays.{is_stray, is_refused}
 use Rattle.command_words.specs.Commands.{app_for}
-use Rattle.command_words.specs.Plans.{HasItems, options_of, value_in}
+use Rattle.command_words.specs.Plans.{options_of, value_in}
 use Rattle.command_words.specs.declared.plan.Program.{Program}
 use Rattle.command_words.specs.declared.plan.Program.TheVariants.{Alone, Shared}
 use Rattle.command_words.proofs.Walking.{is_option, same_text, text_is_itself}
@@ -51,11 +51,11 @@ option_contained : (names : List Text) (name : Text) → Contains names name →
 option_contained names name has =
     list_any-from_Any (λ known. bytes_eq known name) names (has.0, name, has.1, has.2, text_is_itself name)
 
-known_options : (program : Program) (items : List Item) → All (λ item. Contains (options_of program) item.name) items → All (λ item. is_option (options_of program) item.name ≡ true) items
+pub known_options : (program : Program) (items : List Item) → All (λ item. Contains (options_of program) item.name) items → All (λ item. is_option (options_of program) item.name ≡ true) items
 known_options program items known k d lt = option_contained (options_of program) _ (known k d lt)
 
 -- the items where the parse has no fault
-pub items_parsed : (program : Program) (words : List Text) (p : Parses (options_of program) words) → HasItems program words p.items
+pub items_parsed : (program : Program) (words : List Text) (p : Parses (options_of program) words) → HasOptions program words p.items
 items_parsed program words p = record {
   spelled = p.spelled;
   known = λ k d lt. contains_option (options_of program) _ (p.known k d lt);
@@ -66,18 +66,18 @@ pub parsed_words : (program : Program) (words : List Text) → list_any is_stray
 parsed_words program words = parsed (options_of program) (options_are_names program) words
 
 -- no items where it has one
-pub items_unrefused : (program : Program) (words : List Text) (items : List Item) → HasItems program words items → fault_of (app_for program) words ≡ []
+pub items_unrefused : (program : Program) (words : List Text) (items : List Item) → HasOptions program words items → fault_of (app_for program) words ≡ []
 items_unrefused program words items has =
     none_refused (options_of program) (options_are_names program) items words (known_options program items has.known) has.once has.spelled
 
 -- nor where a word is one that stands in no plan
-pub items_unstray : (program : Program) (words : List Text) (items : List Item) → HasItems program words items → list_any is_stray words ≡ false
+pub items_unstray : (program : Program) (words : List Text) (items : List Item) → HasOptions program words items → list_any is_stray words ≡ false
 items_unstray program words items has =
     no_strays (options_of program) (options_are_names program) items words (known_options program items has.known) has.spelled
 
 -- words are the items of one list at most
-pub one_items : (program : Program) (words : List Text) (xs ys : List Item) → HasItems program words xs → HasItems program words ys → xs ≡ ys
-one_items program words xs ys has_x has_y =
+pub one_options : (program : Program) (words : List Text) (xs ys : List Item) → HasOptions program words xs → HasOptions program words ys → xs ≡ ys
+one_options program words xs ys has_x has_y =
     one_list (options_of program) (options_are_names program) xs ys words
     (known_options program xs has_x.known) has_x.once has_x.spelled (known_options program ys has_y.known) has_y.once has_y.spelled
 
@@ -100,12 +100,12 @@ refused_words program words app error fault is kinds memory usage none =
 
 -- a word that stands in no plan, among the words
 module _ {Word : Type 0} (bytes : Word → Text) where
-  pub some_stray : (words : List Word) → Any (λ word. is_stray (bytes word) ≡ true) words → list_any is_stray (map bytes words) ≡ true
-  some_stray words any = sym (list_any-map is_stray bytes words) ∙ list_any-from_Any (λ word. is_stray (bytes word)) words any
+  pub some_refused : (words : List Word) → Any (λ word. is_refused (bytes word) ≡ true) words → list_any is_refused (map bytes words) ≡ true
+  some_refused words any = sym (list_any-map is_refused bytes words) ∙ list_any-from_Any (λ word. is_refused (bytes word)) words any
 
-  pub none_stray : (words : List Word) → (Any (λ word. is_stray (bytes word) ≡ true) words → ⊥) → list_any is_stray (map bytes words) ≡ false
-  none_stray words none = go (list_any is_stray (map bytes words)) refl
+  pub none_refused_word : (words : List Word) → (Any (λ word. is_refused (bytes word) ≡ true) words → ⊥) → list_any is_refused (map bytes words) ≡ false
+  none_refused_word words none = go (list_any is_refused (map bytes words)) refl
     where
-      go : (b : Bool) → list_any is_stray (map bytes words) ≡ b → list_any is_stray (map bytes words) ≡ false
+      go : (b : Bool) → list_any is_refused (map bytes words) ≡ b → list_any is_refused (map bytes words) ≡ false
       go false e = e
-      go true e = absurd (none (Any-from_list_any (λ word. is_stray (bytes word)) words (list_any-map is_stray bytes words ∙ e)))
+      go true e = absurd (none (Any-from_list_any (λ word. is_refused (bytes word)) words (list_any-map is_refused bytes words ∙ e)))

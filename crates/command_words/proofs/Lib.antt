@@ -5,5 +5,6 @@ pub mod Finding
 pub mod Telling
 pub mod Parsing
 pub mod Known
+pub mod Flags
 pub mod Deciding
 pub mod Digits

@@ -10,7 +10,8 @@ use Rattle.clap.specs.Takes.{is_given}
 use Rattle.clap.specs.Simple.{App, built, filled_from, matches_of, names_of}
 use Rattle.clap.proofs.FaultLemmas.{leaf_fault}
 use Rattle.command_words.specs.Commands.{app_with, option_rule}
-use Rattle.command_words.specs.Items.{Text, Item, SpellsItem, SpellsItems, begins_with_hyphen}
+use Rattle.command_words.specs.Items.{Text, Item, SpellsOption, begins_with_hyphen}
+use Rattle.command_words.specs.Givens.{SpellsOptions}
 use Rattle.command_words.specs.Strays.{is_stray}
 use Rattle.command_words.proofs.Walking.{at_item, faults_from, holds, is_option, or_else_none, ready, rows_for, rows_from, shape_with}
 use Rattle.command_words.proofs.Reading.{is_name}
@@ -110,7 +111,7 @@ named_word : (name more : Text) → is_name name ≡ true → is_stray (codes "-
 named_word [] more named = absurd (true≢false (sym named))
 named_word (first ∷ rest) more named = refl
 
-no_strays_in : (item : Item) (words : List Text) → is_name item.name ≡ true → SpellsItem item words → list_any is_stray words ≡ false
+no_strays_in : (item : Item) (words : List Text) → is_name item.name ≡ true → SpellsOption item words → list_any is_stray words ≡ false
 no_strays_in item words named spells =
     ⊎_elim
     (λ one. subst (λ ws. list_any is_stray ws ≡ false) (sym one)
@@ -120,7 +121,7 @@ no_strays_in item words named spells =
     spells
 
 pub no_strays : (names : List Text) → list_all is_name names ≡ true → (items : List Item) (words : List Text)
-    → All (λ item. is_option names item.name ≡ true) items → SpellsItems items words → list_any is_stray words ≡ false
+    → All (λ item. is_option names item.name ≡ true) items → SpellsOptions items words → list_any is_stray words ≡ false
 no_strays names all [] words are spelled = subst (λ ws. list_any is_stray ws ≡ false) (sym spelled) refl
 no_strays names all (item ∷ items) words are spelled =
     let first = no_strays_in item spelled.0 (name_of_option names item.name all (are 0 item (omega arith))) spelled.3 in
@@ -133,7 +134,7 @@ no_strays names all (item ∷ items) words are spelled =
 -- where the parse has no fault the words are items, and these are found
 pub record Parses (names : List Text) (words : List Text) : Type 0 where
   pub items : List Item
-  pub spelled : SpellsItems items words
+  pub spelled : SpellsOptions items words
   pub known : All (λ item. is_option names item.name ≡ true) items
   pub once : AreOnce items
   pub values : (name : Text) → first_of name (matches_of (app_with names) words) ≡ option_map (λ item. item.value) (find (λ item. bytes_eq item.name name) items)
@@ -153,13 +154,13 @@ parsed names all words fine none =
 
 -- and where they are items it has none
 pub none_refused : (names : List Text) → list_all is_name names ≡ true → (items : List Item) (words : List Text)
-    → All (λ item. is_option names item.name ≡ true) items → AreOnce items → SpellsItems items words → fault_of (app_with names) words ≡ []
+    → All (λ item. is_option names item.name ≡ true) items → AreOnce items → SpellsOptions items words → fault_of (app_with names) words ≡ []
 none_refused names all items words known once spelled = faults_are names words ∙ (items_told names all items words known once spelled).faults
 
 -- words are the items of one list at most
 pub one_list : (names : List Text) → list_all is_name names ≡ true → (xs ys : List Item) (words : List Text)
-    → All (λ item. is_option names item.name ≡ true) xs → AreOnce xs → SpellsItems xs words
-    → All (λ item. is_option names item.name ≡ true) ys → AreOnce ys → SpellsItems ys words → xs ≡ ys
+    → All (λ item. is_option names item.name ≡ true) xs → AreOnce xs → SpellsOptions xs words
+    → All (λ item. is_option names item.name ≡ true) ys → AreOnce ys → SpellsOptions ys words → xs ≡ ys
 one_list names all xs ys words known_x once_x spelled_x known_y once_y spelled_y =
     same_items xs ys
     (sym (items_told names all xs words known_x once_x spelled_x).rows ∙ (items_told names all ys words known_y once_y spelled_y).rows)

@@ -9,7 +9,8 @@ use Rattle.clap.specs.Faults.{settle_fault, turn_fault, use_fault, walk_fault}
 use Rattle.clap.specs.declared.error.kind.ErrorKind.TheVariants as kinds
 use Rattle.clap.proofs.SimpleLemmas.{is_false}
 use Rattle.clap.proofs.WalkLemmas.{both}
-use Rattle.command_words.specs.Items.{Text, Item, SpellsItem, SpellsItems, begins_with_hyphen}
+use Rattle.command_words.specs.Items.{Text, Item, SpellsOption, begins_with_hyphen}
+use Rattle.command_words.specs.Givens.{SpellsOptions}
 use Rattle.command_words.proofs.Walking.{at_item, at_value, expects, faults_from, holds, is_known, is_new, is_option, long_word, name_in, next_faults, next_rows, or_else_none, read_items, ready, rows_for, rows_from, same_text, settle_faults, settles, shape_with, together_faults, together_walked, use_faults, value_faults, value_of, value_walked, apart_faults, apart_walked}
 use Rattle.command_words.proofs.Reading.{apart, is_name, together}
 use Rattle.command_words.proofs.Finding.{AreOnce, expecting, new_from_once, front_once, reacts}
@@ -128,7 +129,7 @@ tells_two_words names before last (first ∷ rest) value words items named known
 
 -- the first item, where the others are told
 tells_first : (names : List Text) → list_all is_name names ≡ true → (item : Item) (items : List Item) (words first rest : List Text) (before : List Item) (last : Option Item)
-    → is_known names last ≡ true → is_option names item.name ≡ true → AreOnce (read_items before last ++ item ∷ items) → words ≡ first ++ rest → SpellsItem item first
+    → is_known names last ≡ true → is_option names item.name ≡ true → AreOnce (read_items before last ++ item ∷ items) → words ≡ first ++ rest → SpellsOption item first
     → ((before : List Item) (last : Option Item) → is_known names last ≡ true → AreOnce (read_items before last ++ items) → Tells names (at_item (holds before last)) rest (read_items before last ++ items))
     → Tells names (at_item (holds before last)) words (read_items before last ++ item ∷ items)
 tells_first names all item items words first rest before last known is_one once are spells others =
@@ -149,7 +150,7 @@ tells_first names all item items words first rest before last known is_one once 
 
 -- items from here on
 tells_items : (names : List Text) → list_all is_name names ≡ true → (items : List Item) (words : List Text) (before : List Item) (last : Option Item)
-    → is_known names last ≡ true → All (λ item. is_option names item.name ≡ true) items → AreOnce (read_items before last ++ items) → SpellsItems items words
+    → is_known names last ≡ true → All (λ item. is_option names item.name ≡ true) items → AreOnce (read_items before last ++ items) → SpellsOptions items words
     → Tells names (at_item (holds before last)) words (read_items before last ++ items)
 tells_items names all [] words before last known are once spelled =
     subst (λ ws. Tells names (at_item (holds before last)) ws (read_items before last ++ [])) (sym spelled)
@@ -161,6 +162,6 @@ tells_items names all (item ∷ items) words before last known are once spelled 
 
 -- the words of items have no fault, and these items are found
 pub items_told : (names : List Text) → list_all is_name names ≡ true → (items : List Item) (words : List Text)
-    → All (λ item. is_option names item.name ≡ true) items → AreOnce items → SpellsItems items words
+    → All (λ item. is_option names item.name ≡ true) items → AreOnce items → SpellsOptions items words
     → Tells names (at_item (holds [] None)) words items
 items_told names all items words are once spelled = tells_items names all items words [] None refl are once spelled

@@ -1,5 +1,5 @@
 -- The plan of a list of words.
-use Rattle.std.specs.Prelude.{◌≡◌, ◌≢◌, ◌⊎◌, ℕ, List, [], ◌∷◌, codes, Option, None, find, option_map, AllPairs}
+use Rattle.std.specs.Prelude.{◌≡◌, ◌≢◌, ◌⊎◌, ℕ, List, [], ◌∷◌, codes, Option, None, is_some, find, option_map, AllPairs}
 use Rattle.std.specs.List.{All, Contains}
 use Rattle.std.specs.Str.{bytes_eq}
 use Rattle.command_words.specs.Items.{Text, Item, SpellsItems}
@@ -12,8 +12,8 @@ use Rattle.command_words.specs.declared.plan.Plan.{Plan}
 
 -- The options that a program has.
 abbrev pub options_of : Program → List Text
-options_of Alone = codes "rects" ∷ codes "image" ∷ codes "make" ∷ []
-options_of Shared = codes "workers" ∷ codes "rects" ∷ codes "image" ∷ codes "make" ∷ []
+options_of Alone = codes "rects" ∷ codes "image" ∷ codes "make" ∷ codes "words" ∷ []
+options_of Shared = codes "workers" ∷ codes "rects" ∷ codes "image" ∷ codes "make" ∷ codes "words" ∷ []
 
 -- The words are these items, of options that the program has, each at most once.
 pub record HasItems (program : Program) (words : List Text) (items : List Item) : Type 0 where
@@ -42,7 +42,9 @@ pub record HasPlan (program : Program) (words : List Text) (plan : Plan) : Type 
   pub rects : IsNumberOf (value_in items (codes "rects")) USUAL_RECTS 1 MAX_RECTS plan.rects
   pub image : IsImageOf (value_in items (codes "image")) plan.image
   pub make : IsSeedOf (value_in items (codes "make")) plan.make
+  pub shows_words : plan.words ≡ is_some (value_in items (codes "words"))
   pub apart : AreApart (value_in items (codes "image")) (value_in items (codes "make"))
+  pub words_apart : AreApart (value_in items (codes "words")) (value_in items (codes "make"))
 
 -- The words have no plan.
 abbrev pub HasNoPlan : Program → List Text → Type 0

@@ -1,5 +1,7 @@
--- Words that stand in no plan, though `clap` may take them.
-use Rattle.std.specs.Prelude.{◌==◌, ◌&&◌, not, Bool, false, true, [], ◌∷◌}
+-- Words that stand in no plan, though `clap` may take them, and how it is given the flag.
+use Rattle.std.specs.Prelude.{◌==◌, ◌&&◌, ◌||◌, not, Bool, false, true, [], ◌∷◌, codes, eqb, if◌then◌else◌}
+use Rattle.std.specs.List.{starts_with}
+use Rattle.std.specs.Str.{bytes_eq}
 use Rattle.command_words.specs.Items.{Text}
 
 abbrev after_hyphen : Text → Bool
@@ -11,3 +13,15 @@ after_hyphen (byte ∷ next ∷ rest) = not (byte == 45)
 abbrev pub is_stray : Text → Bool
 is_stray [] = false
 is_stray (byte ∷ rest) = byte == 45 && after_hyphen rest
+
+-- The word gives the flag a value, though it may be an empty one.
+abbrev pub gives_value : Text → Bool
+gives_value word = starts_with eqb word (codes "--words=")
+
+-- The word stands in no plan for one of these causes.
+abbrev pub is_refused : Text → Bool
+is_refused word = is_stray word || gives_value word
+
+-- The word as `clap` is given it: the flag stands there with an empty value, as any other option with its value.
+abbrev pub told_word : Text → Text
+told_word word = if bytes_eq word (codes "--words") then codes "--words=" else word

@@ -8,6 +8,7 @@ mod options;
 mod plan;
 #[cfg(test)]
 mod tests;
+mod told;
 mod words;
 
 pub use law::words_have_one_plan;

@@ -1,10 +1,9 @@
 //! The options of the command line as they are written, read by `clap`.
-ghost use Rattle.std.specs.Prelude.{◌≡◌, ◌≢◌, IfOk, IfErr, List, [], map, string_bytes, true, IsTrue, ◌↔◌};
-ghost use Rattle.std.specs.List.{Any};
+ghost use Rattle.std.specs.Prelude.{◌≡◌, ◌≢◌, IfOk, IfErr, List, [], false};
+ghost use Rattle.std.specs.List.{list_any};
 ghost use Rattle.clap.specs.Words.{app_of, fault_of, found_of, kind_of, matches_of, rows_of, with_rule};
 ghost use Rattle.command_words.specs.Items.{Item};
-ghost use Rattle.command_words.specs.Plans.{HasItems};
-ghost use Rattle.command_words.specs.Givens.{HasValues};
+ghost use Rattle.command_words.specs.Givens.{HasOptions, HasValues, texts_of};
 ghost use Rattle.command_words.specs.Commands.{app_for, app_with, option_rule};
 ghost use Rattle.command_words.specs.Strays.{is_stray};
 
@@ -25,18 +24,8 @@ pub struct OptionTexts<'a> {
     pub image: Option<&'a str>,
     /// The seed of a page that is made in place of one that is read: a number.
     pub make: Option<&'a str>,
-}
-
-/// Whether a word begins with one hyphen and no second, or is two hyphens and no more. `clap` gives
-/// such words a meaning, and a plan has none of them.
-fn is_stray_word(word: &str) -> bool
-    ensures stray { IsTrue result ↔ (is_stray word.now ≡ true) }
-{
-    match word.as_bytes() {
-        [b'-', b'-', rest @ ..] => rest.is_empty(),
-        [b'-', ..] => true,
-        _ => false,
-    }
+    /// Nothing, where the words of the lines shall be shown.
+    pub words: Option<&'a str>,
 }
 
 /// The command without an option, without help and without a word for the program.
@@ -70,7 +59,8 @@ fn command<'a>(alloc: Global, program: Program) -> Result<Command<'a>, OutOfMemo
     };
     let second = with_option(alloc, first, "rects")?;
     let third = with_option(alloc, second, "image")?;
-    with_option(alloc, third, "make")
+    let fourth = with_option(alloc, third, "make")?;
+    with_option(alloc, fourth, "words")
 }
 
 /// The fault of the words, by the kind of `clap`'s error.
@@ -87,13 +77,13 @@ fn fault_of_kind(kind: ErrorKind) -> WordFault
 /// What `clap` makes of the words.
 fn matches_of_words<'a>(
     alloc: Global,
-    words: &'a [String],
+    words: &'a [&'a str],
     program: Program,
 ) -> Result<ArgMatches<'a>, WordFault>
-    ensures found { IfOk result (λ matches. (fault_of (app_for program) (map string_bytes words.now) ≡ [])
-        × (rows_of (found_of matches) ≡ matches_of (app_for program) (map string_bytes words.now))) }
+    ensures found { IfOk result (λ matches. (fault_of (app_for program) (texts_of words.now) ≡ [])
+        × (rows_of (found_of matches) ≡ matches_of (app_for program) (texts_of words.now))) }
     ensures refused { IfErr result (λ fault. fault ≡ WordFault.Usage
-        → fault_of (app_for program) (map string_bytes words.now) ≢ []) }
+        → fault_of (app_for program) (texts_of words.now) ≢ []) }
 {
     match command(alloc, program)?.try_get_matches_from(words) {
         Ok(matches) => Ok(matches),
@@ -101,31 +91,23 @@ fn matches_of_words<'a>(
     }
 }
 
-/// Whether one of the words stands in no plan, though `clap` may take it.
-fn has_stray(words: &[String]) -> bool
-    ensures stray { IsTrue result ↔ Any (λ word. is_stray (string_bytes word) ≡ true) words.now }
-{
-    words.iter().any(|word| is_stray_word(word.as_str()))
-}
-
 /// The values of the options, where the words are options of the program with a value each.
 pub fn read_options<'a>(
     alloc: Global,
-    words: &'a [String],
+    words: &'a [&'a str],
     program: Program,
 ) -> Result<OptionTexts<'a>, WordFault>
-    ensures values { IfOk result (HasValues program (map string_bytes words.now)) }
+    requires plain { list_any is_stray (texts_of words.now) ≡ false }
+    ensures values { IfOk result (HasValues program (texts_of words.now)) }
     ensures usage { IfErr result (λ fault. fault ≡ WordFault.Usage
-        → (items : List Item) → ¬ HasItems program (map string_bytes words.now) items) }
+        → (items : List Item) → ¬ HasOptions program (texts_of words.now) items) }
 {
-    if has_stray(words) {
-        return Err(WordFault::Usage);
-    }
     let matches = matches_of_words(alloc, words, program)?;
     Ok(OptionTexts {
         workers: matches.get_str("workers"),
         rects: matches.get_str("rects"),
         image: matches.get_str("image"),
         make: matches.get_str("make"),
+        words: matches.get_str("words"),
     })
 }

@@ -39,6 +39,8 @@ pub struct Plan {
     /// The seed from which a page is made, where it is not read: none where no word tells. A plan
     /// with a seed has no name of an image.
     pub make: Option<u64>,
+    /// Whether the document shows the words of each line. A plan with a seed does not.
+    pub words: bool,
 }
 
 /// Why words have no answer.

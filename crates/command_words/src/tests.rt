@@ -230,6 +230,38 @@ fn workers_of_the_shared_program(rt: HostRuntime) -> Result<(), Fail> {
 }
 
 #[test]
+fn the_flag_stands_once_alone_and_without_a_seed(rt: HostRuntime) -> Result<(), Fail> {
+    let lines: [(&[&str], bool, u16); 6] = [
+        (&[], false, 32),
+        (&["--words"], true, 32),
+        (&["--words", "--rects", "2"], true, 2),
+        (&["--rects=2", "--words", "--image", "a"], true, 2),
+        (&["--image", "words", "--rects=3"], false, 3),
+        (&["--image=--words"], false, 32),
+    ];
+    let programs = [Program::Alone, Program::Shared];
+    for (words, shown, rects) in lines {
+        for program in programs {
+            let plan = plan(rt.alloc(), words, program)?;
+            assert_eq!(rt; (plan.words, plan.rects), (shown, rects), "{words:?}");
+        }
+    }
+    let refused: [&[&str]; 9] = [
+        &["--words", "--words"],
+        &["--words", "--rects", "2", "--words"],
+        &["--words=x"],
+        &["--words="],
+        &["--words", "x"],
+        &["--image", "--words", "a"],
+        &["--words", "--make", "7"],
+        &["--make=7", "--words"],
+        &["--word"],
+    ];
+    assert_eq!(rt; first_with_a_plan(rt.alloc(), &refused, &programs)?, None);
+    Ok(())
+}
+
+#[test]
 fn words_with_a_seed(rt: HostRuntime) -> Result<(), Fail> {
     let lines: [(&[&str], u64, u16); 6] = [
         (&["--make", "7"], 7, 32),

@@ -8,6 +8,7 @@ use crate::image::image_or_none;
 use crate::number::{number_or, seed_or_none};
 use crate::options::read_options;
 use crate::plan::{MAX_NAME_BYTES, Plan, Program, USUAL_RECTS, USUAL_WORKERS, WordFault};
+use crate::told::told_words;
 use layout_limits::{MAX_RECTS, MAX_WORKERS};
 use std::alloc::Global;
 
@@ -37,8 +38,12 @@ pub fn words_of(alloc: Global, words: &[String], program: Program) -> Result<Pla
     ensures usage { IfErr result (λ fault. fault ≡ WordFault.Usage
         → HasNoPlan program (map string_bytes words.now)) }
 {
-    let given = read_options(alloc, words, program)?;
+    let told = told_words(alloc, words)?;
+    let given = read_options(alloc, &told, program)?;
     if !are_apart(given.image, given.make) {
+        return Err(WordFault::Usage);
+    }
+    if !are_apart(given.words, given.make) {
         return Err(WordFault::Usage);
     }
     let workers = number_or(given.workers, workers_of(program), MAX_WORKERS)?;
@@ -50,5 +55,6 @@ pub fn words_of(alloc: Global, words: &[String], program: Program) -> Result<Pla
         workers,
         image,
         make,
+        words: given.words.is_some(),
     })
 }

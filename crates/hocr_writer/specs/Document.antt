@@ -1,6 +1,7 @@
 -- The document of the layouts of an input's pages, line by line: HTML in the manner of hOCR 1.2.
 -- Each line ends with one line feed. A number is decimal, without leading zeros.
-use Rattle.std.specs.Prelude.{ℕ, List, [], ◌∷◌, take, drop, codes, decimal}
+use Rattle.std.specs.List.{list_any}
+use Rattle.std.specs.Prelude.{ℕ, Bool, true, false, List, [], ◌∷◌, take, drop, codes, decimal}
 use Rattle.layout_geom.specs.declared.rect.Rect.{Rect}
 use Rattle.layout_geom.specs.declared.area.Area.{Area}
 use Rattle.layout_geom.specs.declared.order.Order.{Order}
@@ -95,6 +96,24 @@ area_text layout number area =
 abbrev pub placed_order : ℕ → Layout → List ℕ
 placed_order place layout = order_line layout
 
+-- One of the layouts shows the words of its lines.
+abbrev pub shows_words : List Layout → Bool
+shows_words = list_any (λ layout. layout.with_words)
+
+-- The kind of the elements of words, where they are shown.
+abbrev pub word_kind : Bool → List ℕ
+word_kind true = codes " ocrx_word"
+word_kind false = []
+
+-- The kinds of elements that the document has, those of words only where they are shown.
+unfoldable pub capabilities_line : Bool → List ℕ
+capabilities_line with_words =
+    joined_pieces
+    (codes "<meta name='ocr-capabilities' content='ocr_page ocr_carea ocr_line ocr_separator"
+    ∷ word_kind with_words
+    ∷ codes "'>\n"
+    ∷ [])
+
 -- What stands in front of the body. It says of each page how its lines are ordered.
 unfoldable pub head_text : List Layout → List ℕ
 head_text layouts =
@@ -105,7 +124,7 @@ head_text layouts =
     ∷ codes "<title>layout</title>\n"
     ∷ codes "<meta charset='utf-8'>\n"
     ∷ codes "<meta name='ocr-system' content='layout'>\n"
-    ∷ codes "<meta name='ocr-capabilities' content='ocr_page ocr_carea ocr_line ocr_separator'>\n"
+    ∷ capabilities_line (shows_words layouts)
     ∷ joined_pieces (numbered_pieces placed_order 0 layouts)
     ∷ codes "</head>\n"
     ∷ [])

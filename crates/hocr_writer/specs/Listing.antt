@@ -1,5 +1,6 @@
 -- The listing of a page's text lines, and the layouts that can be written, alone and together.
-use Rattle.std.specs.Prelude.{◌≡◌, ℕ, ◌+◌, ◌<◌, List, [], ◌∷◌, length, slice_index, All, Some}
+use Rattle.layout_geom.specs.declared.rect.Rect.{Rect}
+use Rattle.std.specs.Prelude.{◌≡◌, Bool, true, false, ℕ, ◌+◌, ◌<◌, List, [], ◌∷◌, length, slice_index, All, Some}
 use Rattle.std.specs.List.{range_with_len, slice_get}
 use Rattle.layout_geom.specs.declared.area.Area.{Area}
 use Rattle.layout_geom.specs.declared.order.Order.{Order}
@@ -43,15 +44,23 @@ pub record IsMark (mark : Mark) : Type 0 where
   pub offset : IsOffset mark.offset
   pub depth : IsDepth mark.depth
 
+-- There is one item of words for each of so many lines where they are shown, and none where they are not.
+abbrev pub HasWords : Bool → ℕ → List (List Rect) → Type 0
+HasWords true count words = length words ≡ count
+HasWords false count words = words ≡ []
+
 -- A layout that can be written.
 pub record IsWholeLayout (layout : Layout) : Type 0 where
   pub order : NamesLines layout.order (length layout.lines)
   pub areas : SplitListing 0 (length layout.lines) layout.areas
   pub marks : All IsMark layout.lines
+  pub words : HasWords layout.with_words (length layout.lines) layout.words
 
 -- The layouts of the pages of an input, which can be written in one document: there is one at least,
--- each can be written, and the number of each page is its place.
+-- each can be written, the number of each page is its place, and all show the words of their lines, or none does.
 pub record AreWholeLayouts (layouts : List Layout) : Type 0 where
   pub some : layouts ≡ [] → ⊥
   pub whole : All IsWholeLayout layouts
   pub numbered : (place : ℕ) (layout : Layout) → slice_get layouts place ≡ Some layout → layout.page ≡ place
+  pub with_words : Bool
+  pub alike : All (λ layout. layout.with_words ≡ with_words) layouts

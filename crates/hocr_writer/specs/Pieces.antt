@@ -26,14 +26,16 @@ box_text box =
     ∷ decimal box.y1
     ∷ [])
 
--- The front of an element, up to its box. Its `id` ends with the numbers of its page and of itself.
-unfoldable pub box_front : List ℕ → ℕ → ℕ → Rect → List ℕ
-box_front opening page number box =
+-- The end of an `id`, by the number of its element, and the box behind it.
+unfoldable pub numbered_box : ℕ → Rect → List ℕ
+numbered_box number box =
     joined_pieces
-    (opening
-    ∷ decimal page
-    ∷ codes "_"
+    (codes "_"
     ∷ decimal number
     ∷ codes "' title='bbox "
     ∷ box_text box
     ∷ [])
+
+-- The front of an element, up to its box. Its `id` ends with the numbers of its page and of itself.
+unfoldable pub box_front : List ℕ → ℕ → ℕ → Rect → List ℕ
+box_front opening page number box = joined_pieces (opening ∷ decimal page ∷ numbered_box number box ∷ [])

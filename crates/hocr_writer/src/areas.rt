@@ -2,6 +2,7 @@
 ghost use Rattle.std.specs.Prelude.{◌≡◌, ◌+◌, ◌<◌, ◌≤◌, ◌++◌, length, slice_index, OnOk};
 ghost use Rattle.hocr_writer.specs.Pieces.{joined_pieces, numbered_pieces};
 ghost use Rattle.hocr_writer.specs.Listing.{listing_of, NamesLines, IsWholeLayout};
+ghost use Rattle.hocr_writer.specs.Lines.{words_in};
 ghost use Rattle.hocr_writer.specs.Document.{placed_line, lines_in, area_line, area_text};
 
 use crate::boxes::put_box_front;
@@ -44,6 +45,16 @@ fn put_area_line(
     Ok(())
 }
 
+// The words of the line of a number: none where they are not shown.
+fn words_at(layout: &Layout, number: usize) -> &[Rect]
+    ensures words { result.now ≡ words_in layout.now number }
+{
+    match layout.words.as_slice().get(number) {
+        Some(words) => words.as_slice(),
+        None => &[],
+    }
+}
+
 // The lines of an area, in the order of the listing.
 fn put_lines(text: &mut TextBuffer, layout: &Layout, area: &Area) -> Result<(), OutOfMemory>
     requires names { NamesLines layout.now.order (length layout.now.lines) }
@@ -54,7 +65,8 @@ fn put_lines(text: &mut TextBuffer, layout: &Layout, area: &Area) -> Result<(), 
     let first = area.first as usize;
     for place in 0..area.count as usize {
         let number = number_at(layout, first + place);
-        put_mark(text, layout.page, number, *layout.lines.get(number))?;
+        let mark = *layout.lines.get(number);
+        put_mark(text, layout.page, number, mark, words_at(layout, number))?;
     }
     Ok(())
 }

@@ -1,6 +1,6 @@
 //! The lines of boxes: an element of nothing but its box for each box of a list.
 ghost use Rattle.std.specs.Prelude.{◌≡◌, ◌++◌, OnOk};
-ghost use Rattle.hocr_writer.specs.Pieces.{joined_pieces, numbered_pieces, box_text, box_front};
+ghost use Rattle.hocr_writer.specs.Pieces.{joined_pieces, numbered_pieces, box_text, numbered_box, box_front};
 ghost use Rattle.hocr_writer.specs.Document.{box_line};
 
 use crate::text::TextBuffer;
@@ -22,6 +22,22 @@ fn put_box(text: &mut TextBuffer, bbox: &Rect) -> Result<(), OutOfMemory>
     Ok(())
 }
 
+/// The end of an `id`, by the number of its element, and the box behind it.
+#[tactic(auto, using(crate::proofs::Joined::growing), unfolding(crate::specs::Pieces::numbered_box))]
+pub fn put_numbered_box(
+    text: &mut TextBuffer,
+    number: usize,
+    bbox: &Rect,
+) -> Result<(), OutOfMemory>
+    ensures grown { OnOk result (text.new ≡ text.old ++ numbered_box number bbox.now) }
+{
+    text.push(b"_")?;
+    text.push_number(number)?;
+    text.push(b"' title='bbox ")?;
+    put_box(text, bbox)?;
+    Ok(())
+}
+
 /// The front of an element, up to its box. What it opens with ends in the front of its `id`.
 #[tactic(auto, using(crate::proofs::Joined::growing), unfolding(crate::specs::Pieces::box_front))]
 pub fn put_box_front(
@@ -35,10 +51,7 @@ pub fn put_box_front(
 {
     text.push(opening)?;
     text.push_number(page)?;
-    text.push(b"_")?;
-    text.push_number(number)?;
-    text.push(b"' title='bbox ")?;
-    put_box(text, bbox)?;
+    put_numbered_box(text, number, bbox)?;
     Ok(())
 }
 

@@ -2,7 +2,7 @@
 ghost use Rattle.std.specs.Prelude.{◌≡◌, ◌++◌, ◌∷◌, [], All, OnOk, IfOk};
 ghost use Rattle.hocr_writer.specs.Pieces.{joined_pieces, numbered_pieces};
 ghost use Rattle.hocr_writer.specs.Listing.{IsWholeLayout, AreWholeLayouts};
-ghost use Rattle.hocr_writer.specs.Document.{image_text, page_line, white_line, gutter_line, head_text, page_text, placed_page, document_of};
+ghost use Rattle.hocr_writer.specs.Document.{image_text, page_line, white_line, gutter_line, shows_words, word_kind, capabilities_line, head_text, page_text, placed_page, document_of};
 
 use crate::areas::put_areas;
 use crate::boxes::put_box_lines;
@@ -67,6 +67,31 @@ fn put_gutters(text: &mut TextBuffer, layout: &Layout) -> Result<(), OutOfMemory
     put_box_lines(text, opening, layout.page, &layout.gutters)
 }
 
+// The kind of the elements of words, where they are shown.
+fn word_capability(with_words: bool) -> &'static [u8]
+    ensures { result.now ≡ word_kind with_words }
+{
+    if with_words { b" ocrx_word" } else { b"" }
+}
+
+// The kinds of elements that the document has, those of words only where they are shown.
+#[tactic(auto, using(crate::proofs::Joined::growing), unfolding(crate::specs::Document::capabilities_line))]
+fn put_capabilities(text: &mut TextBuffer, with_words: bool) -> Result<(), OutOfMemory>
+    ensures grown { OnOk result (text.new ≡ text.old ++ capabilities_line with_words) }
+{
+    text.push(b"<meta name='ocr-capabilities' content='ocr_page ocr_carea ocr_line ocr_separator")?;
+    text.push(word_capability(with_words))?;
+    text.push(b"'>\n")?;
+    Ok(())
+}
+
+// Whether one of the layouts shows the words of its lines.
+fn show_words(layouts: &[Layout]) -> bool
+    ensures { result ≡ shows_words layouts.now }
+{
+    layouts.iter().any(|layout| layout.with_words)
+}
+
 // What stands in front of the body.
 #[tactic(auto, using(crate::proofs::Joined::growing), unfolding(crate::specs::Document::head_text))]
 fn put_head(text: &mut TextBuffer, layouts: &[Layout]) -> Result<(), OutOfMemory>
@@ -78,9 +103,7 @@ fn put_head(text: &mut TextBuffer, layouts: &[Layout]) -> Result<(), OutOfMemory
     text.push(b"<title>layout</title>\n")?;
     text.push(b"<meta charset='utf-8'>\n")?;
     text.push(b"<meta name='ocr-system' content='layout'>\n")?;
-    text.push(
-        b"<meta name='ocr-capabilities' content='ocr_page ocr_carea ocr_line ocr_separator'>\n",
-    )?;
+    put_capabilities(text, show_words(layouts))?;
     put_order_lines(text, layouts)?;
     text.push(b"</head>\n")?;
     Ok(())
@@ -141,7 +164,7 @@ fn document_text(alloc: Global, layouts: &[Layout]) -> Result<Vec<u8>, OutOfMemo
 /// the listing, each with its half-open `bbox` of pixels. An area holds its lines, each with its
 /// `baseline`: the slope, with three decimals, and how far below the bottom edge of the line's box it
 /// begins at the left edge. Where the line of its descenders lies below the baseline, `x_depth` says
-/// by how many rows.
+/// by how many rows. Where the words of the lines are shown, they stand in their lines, each with its `bbox`.
 ///
 /// The text is ASCII where the name of the image is, and each of its lines ends with one line feed.
 ///
@@ -157,7 +180,7 @@ pub fn hocr_text(alloc: Global, layout: &Layout) -> Result<Vec<u8>, OutOfMemory>
 
 /// The document of the layouts of an input's pages, as `hocr_text` has it for one page: one head,
 /// with one line on the order of the text lines for each page, and one body, with one `ocr_page`
-/// element for each page, all in the order of the pages.
+/// element for each page, all in the order of the pages. All layouts show the words of their lines, or none does.
 ///
 /// The text is ASCII where the names of the images are, and each of its lines ends with one line feed.
 ///

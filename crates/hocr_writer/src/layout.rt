@@ -52,7 +52,16 @@ pub struct Layout {
     /// The areas that the listing of the lines falls into. The k-th, from 0, is an element
     /// `ocr_carea`, with the `id` `area_` and the page's number, `_` and k. Its lines stand in it.
     pub areas: Areas,
+    /// Whether the words of each line are shown.
+    pub with_words: bool,
+    /// The words of each line, by the number of the line and from left to right; no item where they are not
+    /// shown. The k-th word, from 0, of the line of number n is an element `ocrx_word`, with the `id` `word_` and
+    /// the page's number, `_`, n, `_` and k. It stands in its line.
+    pub words: WordRows,
 }
+
+/// The boxes of words, line by line.
+pub type WordRows = Items<Rects>;
 
 /// The layouts of the pages of an input, in the order of the pages.
 pub type Layouts = Items<Layout>;

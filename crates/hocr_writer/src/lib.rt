@@ -14,5 +14,5 @@ mod text;
 mod whole;
 
 pub use document::{hocr_text, pages_text};
-pub use layout::{Layout, Layouts, Mark, Marks};
+pub use layout::{Layout, Layouts, Mark, Marks, WordRows};
 pub use summary::summary_text;

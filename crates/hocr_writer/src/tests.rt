@@ -2,7 +2,7 @@
 ghost use Rattle.std.specs.Prelude.{IsTrue};
 ghost use Rattle.hocr_writer.specs.Listing.{AreWholeLayouts};
 
-use crate::{Layout, Layouts, Mark, Marks, hocr_text, pages_text, summary_text};
+use crate::{Layout, Layouts, Mark, Marks, WordRows, hocr_text, pages_text, summary_text};
 use layout_geom::{Area, Areas, Name, Numbers, Order, Rect, Rects};
 use std::alloc::Global;
 use std::test::Fail;
@@ -29,6 +29,8 @@ struct Case {
     // The page's element.
     element: &'static str,
     summary: &'static [u8],
+    // The words of each line, where they are shown.
+    words: &'static [&'static [Sides]],
 }
 
 // A sinking and a rising line, with the greatest values of the other numbers, and a name.
@@ -52,15 +54,22 @@ const SLANTED_LINES: Case = Case {
 <div class='ocr_page' id='page_4294967295' title='image \"scan.pbm\"; bbox 0 0 65535 65535; \
 ppageno 4294967295; x_black 18446744073709551615'>\n\
 <div class='ocr_carea' id='area_4294967295_0' title='bbox 0 20 1010 40'>\n\
-<span class='ocr_line' id='line_4294967295_1' title='bbox 0 20 1010 40; baseline -0.010 1'></span>\n\
+<span class='ocr_line' id='line_4294967295_1' title='bbox 0 20 1010 40; baseline -0.010 1'>\
+<span class='ocrx_word' id='word_4294967295_1_0' title='bbox 0 20 1010 40'></span></span>\n\
 </div>\n\
 <div class='ocr_carea' id='area_4294967295_1' title='bbox 0 20 1010 40'>\n\
-<span class='ocr_line' id='line_4294967295_0' title='bbox 0 20 1010 40; baseline 0.010 -10'></span>\n\
+<span class='ocr_line' id='line_4294967295_0' title='bbox 0 20 1010 40; baseline 0.010 -10'>\
+<span class='ocrx_word' id='word_4294967295_0_0' title='bbox 0 20 500 40'></span>\
+<span class='ocrx_word' id='word_4294967295_0_1' title='bbox 510 20 1010 40'></span></span>\n\
 </div>\n\
 </div>\n",
     summary: b"\
 page 65535 65535\nblack 18446744073709551615\ncomponents 12\nmedian 10\nrectangles 0\ngutters 0\n\
 lines 2\nareas 2\norder topological\n",
+    words: &[
+        &[[0, 20, 500, 40], [510, 20, 1010, 40]],
+        &[[0, 20, 1010, 40]],
+    ],
 };
 
 // Two white rectangles, of which one is a gutter; three lines and a cycle of two of them, which is not in rising order.
@@ -96,6 +105,7 @@ const CYCLE: Case = Case {
 </div>\n",
     summary: b"\
 page 100 60\nblack 0\ncomponents 12\nmedian 10\nrectangles 2\ngutters 1\nlines 3\nareas 2\norder cycle 2 0\n",
+    words: &[],
 };
 
 // Five letters, of which two have tails: the line of the tails lies 4 rows below the baseline, at the bottom edge of the box.
@@ -121,6 +131,7 @@ const LETTERS_WITH_TAILS: Case = Case {
     summary: b"\
 page 110 60\nblack 1080\ncomponents 12\nmedian 10\nrectangles 0\ngutters 0\n\
 lines 1\nareas 1\norder topological\n",
+    words: &[],
 };
 
 const CASES: [Case; 3] = [SLANTED_LINES, CYCLE, LETTERS_WITH_TAILS];
@@ -129,10 +140,15 @@ const CASES: [Case; 3] = [SLANTED_LINES, CYCLE, LETTERS_WITH_TAILS];
 fn document(alloc: Global, case: &Case) -> Result<String, Fail> {
     let order = case.order_text;
     let element = case.element;
+    let words = if case.words.is_empty() {
+        ""
+    } else {
+        " ocrx_word"
+    };
     Ok(format!(in alloc;
         "\
 <!DOCTYPE html>\n<html>\n<head>\n<title>layout</title>\n<meta charset='utf-8'>\n<meta name='ocr-system' content='layout'>\n\
-<meta name='ocr-capabilities' content='ocr_page ocr_carea ocr_line ocr_separator'>\n\
+<meta name='ocr-capabilities' content='ocr_page ocr_carea ocr_line ocr_separator{words}'>\n\
 <meta name='layout-order' content='{order}'>\n</head>\n<body>\n{element}</body>\n</html>\n"
     )?)
 }
@@ -160,6 +176,14 @@ fn marks(alloc: Global, lines: &[(Sides, i8, i16, u8)]) -> Result<Marks, Fail> {
         })?;
     }
     Ok(marks)
+}
+
+fn word_rows(alloc: Global, rows: &[&[Sides]]) -> Result<WordRows, Fail> {
+    let mut words = WordRows::new(alloc);
+    for row in rows {
+        words.push(boxes(alloc, *row)?)?;
+    }
+    Ok(words)
 }
 
 fn areas(alloc: Global, stretches: &[(u32, u32, Sides)]) -> Result<Areas, Fail> {
@@ -208,6 +232,8 @@ fn layout_of_case(alloc: Global, case: &Case) -> Result<Layout, Fail> {
         lines: marks(alloc, case.lines)?,
         order: order(alloc, case.is_cycle, case.order)?,
         areas: areas(alloc, case.areas)?,
+        with_words: !case.words.is_empty(),
+        words: word_rows(alloc, case.words)?,
     })
 }
 
@@ -226,7 +252,7 @@ fn documents_are_as_the_format_says(rt: HostRuntime) -> Result<(), Fail> {
     Ok(())
 }
 
-// Whether the layouts can be written in one document.
+// Whether the layouts, which show no words, can be written in one document.
 fn are_whole(layouts: &Layouts) -> bool
     ensures { IsTrue result → AreWholeLayouts layouts.now }
 {
@@ -234,7 +260,7 @@ fn are_whole(layouts: &Layouts) -> bool
         return false;
     }
     for (place, layout) in layouts.as_slice().iter().enumerate() {
-        if !layout.is_whole() || layout.page as usize != place {
+        if !layout.is_whole() || layout.page as usize != place || layout.with_words {
             return false;
         }
     }
@@ -264,6 +290,8 @@ fn blank_page(alloc: Global, page: u32) -> Result<Layout, Fail> {
         lines: Marks::new(alloc),
         order: order(alloc, false, &[])?,
         areas: Areas::new(alloc),
+        with_words: false,
+        words: WordRows::new(alloc),
     })
 }
 
@@ -344,21 +372,41 @@ fn layouts_with_a_gap_or_a_wrong_number_are_not_whole(rt: HostRuntime) -> Result
         &[u32],
         &[(u32, u32, Sides)],
         bool,
-    ); 12] = [
-        (two, false, &[1, 0], whole, true),
-        (two, true, &[1], whole, true),
-        (two, false, &[0, 0], whole, false),
-        (two, false, &[0], whole, false),
-        (two, false, &[0, 2], whole, false),
-        (two, true, &[2], whole, false),
-        (two, false, &[0, 1], &[(0, 1, page)], false),
-        (two, false, &[0, 1], &[(1, 1, page), (0, 1, page)], false),
-        (two, false, &[0, 1], &[(0, 2, page), (1, 1, page)], false),
+        &[&[Sides]],
+        bool,
+    ); 16] = [
+        (two, false, &[1, 0], whole, false, &[], true),
+        (two, true, &[1], whole, false, &[], true),
+        (two, false, &[0, 0], whole, false, &[], false),
+        (two, false, &[0], whole, false, &[], false),
+        (two, false, &[0, 2], whole, false, &[], false),
+        (two, true, &[2], whole, false, &[], false),
+        (two, false, &[0, 1], &[(0, 1, page)], false, &[], false),
+        (
+            two,
+            false,
+            &[0, 1],
+            &[(1, 1, page), (0, 1, page)],
+            false,
+            &[],
+            false,
+        ),
+        (
+            two,
+            false,
+            &[0, 1],
+            &[(0, 2, page), (1, 1, page)],
+            false,
+            &[],
+            false,
+        ),
         (
             &[(page, 33, 10, 0), (page, 0, 10, 0)],
             false,
             &[0, 1],
             whole,
+            false,
+            &[],
             false,
         ),
         (
@@ -367,6 +415,8 @@ fn layouts_with_a_gap_or_a_wrong_number_are_not_whole(rt: HostRuntime) -> Result
             &[0, 1],
             whole,
             false,
+            &[],
+            false,
         ),
         (
             &[(page, 0, 10, 64), (page, 0, 10, 0)],
@@ -374,13 +424,32 @@ fn layouts_with_a_gap_or_a_wrong_number_are_not_whole(rt: HostRuntime) -> Result
             &[0, 1],
             whole,
             false,
+            &[],
+            false,
+        ),
+        (two, false, &[0, 1], whole, true, &[&[page], &[]], true),
+        (two, false, &[0, 1], whole, true, &[&[page]], false),
+        (two, false, &[0, 1], whole, true, &[], false),
+        (
+            two,
+            false,
+            &[0, 1],
+            whole,
+            false,
+            &[&[page], &[page]],
+            false,
         ),
     ];
-    for (place, (lines, is_cycle, numbers, stretches, is_whole)) in cases.iter().enumerate() {
+    for (place, (lines, is_cycle, numbers, stretches, with_words, words, is_whole)) in cases
+        .iter()
+        .enumerate()
+    {
         let mut layout = layout_of_case(alloc, &CASES[0])?;
         layout.lines = marks(alloc, lines)?;
         layout.order = order(alloc, *is_cycle, numbers)?;
         layout.areas = areas(alloc, stretches)?;
+        layout.with_words = *with_words;
+        layout.words = word_rows(alloc, words)?;
         assert_eq!(rt; layout.is_whole(), *is_whole, "case {place}");
     }
     Ok(())

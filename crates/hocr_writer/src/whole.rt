@@ -1,8 +1,8 @@
 //! Which layouts can be written.
 ghost use Rattle.std.specs.Prelude.{◌≡◌, ◌<◌, ℕ, All, length, slice_index, IsTrue, ◌↔◌};
-ghost use Rattle.hocr_writer.specs.Listing.{AreDistinct, NamesLines, SplitListing, IsMark, IsWholeLayout, HasEachOnce};
+ghost use Rattle.hocr_writer.specs.Listing.{AreDistinct, NamesLines, SplitListing, IsMark, HasWords, IsWholeLayout, HasEachOnce};
 
-use crate::layout::{Layout, Mark};
+use crate::layout::{Layout, Mark, WordRows};
 use layout_geom::{Area, Order};
 use line_quality::{LEAST_OFFSET, LEAST_SLOPE, MAX_DEPTH, MAX_OFFSET, MAX_SLOPE};
 
@@ -70,11 +70,23 @@ fn is_mark(mark: &Mark) -> bool
         && mark.depth <= MAX_DEPTH
 }
 
+/// Whether there is one item of words for each of so many lines where they are shown, and none where they are not.
+fn has_words(with_words: bool, count: usize, words: &WordRows) -> bool
+    ensures { IsTrue result ↔ HasWords with_words count words.now }
+{
+    if with_words {
+        words.len() == count
+    } else {
+        words.is_empty()
+    }
+}
+
 impl Layout {
     /// Whether the layout can be written: its order has each line once, or its cycle none but the
-    /// lines; its areas split the listing from its front to its end without a gap; and each slope is
+    /// lines; its areas split the listing from its front to its end without a gap; each slope is
     /// from `LEAST_SLOPE` to `MAX_SLOPE`, each offset from `LEAST_OFFSET` to `MAX_OFFSET`, and each
-    /// depth at most `MAX_DEPTH`.
+    /// depth at most `MAX_DEPTH`; and it has one item of words for each line where they are shown, and
+    /// none where they are not.
     ///
     /// Time grows with the square of the number of lines. It takes no memory.
     pub fn is_whole(&self) -> bool
@@ -84,5 +96,6 @@ impl Layout {
         names_lines(&self.order, count)
             && split_listing(self.areas.as_slice(), count)
             && self.lines.as_slice().iter().all(is_mark)
+            && has_words(self.with_words, count, &self.words)
     }
 }

@@ -1,11 +1,7 @@
-use Rattle.std.proofs.Common.{◌∙◌, sym, true≢false, codes}
+use Rattle.std.proofs.Common.{codes}
 use Rattle.clap.proofs.TakesLemmas.{passed_up}
-use Rattle.command_words.proofs.Known.{items_unrefused, items_unstray, items_parsed, parsed_words, value_given, some_stray, none_stray}
+use Rattle.command_words.proofs.Known.{items_unrefused, items_parsed, parsed_words, value_given}
 use Rattle.command_words.proofs.options.read_options.Goals as goal
-
-pub returns-then-has_stray-clause-usage : goal.returns-then-has_stray-clause-usage
-returns-then-has_stray-clause-usage c = λ is items has.
-    true≢false (sym (some_stray _ c.args.words.now (c.has_stray.ensures.stray.0 c.if-has_stray.true)) ∙ items_unstray c.args.program _ items has)
 
 pub returns-in_err-matches-clause-usage : goal.returns-in_err-matches-clause-usage
 returns-in_err-matches-clause-usage c =
@@ -14,8 +10,7 @@ returns-in_err-matches-clause-usage c =
 pub returns-clause-values : goal.returns-clause-values
 returns-clause-values c =
     let found = c.in_ok-matches.ensures.found in
-    let fine = none_stray _ c.args.words.now (λ any. true≢false (sym (c.has_stray.ensures.stray.1 any) ∙ c.if-has_stray.false)) in
-    let p = parsed_words c.args.program _ fine found.0 in
+    let p = parsed_words c.args.program _ c.requires.plain found.0 in
     record {
       items = p.items;
       spelled = items_parsed c.args.program _ p;
@@ -23,4 +18,5 @@ returns-clause-values c =
       rects = value_given c.args.program _ p c.in_ok-matches.matches (codes "rects") c.get_str-2.result found.1 c.get_str-2.ensures;
       image = value_given c.args.program _ p c.in_ok-matches.matches (codes "image") c.get_str-3.result found.1 c.get_str-3.ensures;
       make = value_given c.args.program _ p c.in_ok-matches.matches (codes "make") c.get_str-4.result found.1 c.get_str-4.ensures;
+      flag = value_given c.args.program _ p c.in_ok-matches.matches (codes "words") c.get_str-5.result found.1 c.get_str-5.ensures;
     }

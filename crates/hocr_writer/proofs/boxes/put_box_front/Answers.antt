@@ -4,4 +4,4 @@ use Rattle.hocr_writer.proofs.boxes.put_box_front.Goals as goal
 
 pub returns : goal.returns
 unfolding box_front
-returns c = record { grown = rw (c.in_ok-put_box.ensures.grown, c.in_ok-push-3.ensures.grown, c.in_ok-push_number-2.ensures.grown, c.in_ok-push-2.ensures.grown, c.in_ok-push_number.ensures.grown, c.in_ok-push.ensures.grown) (simp growing) }
+returns c = record { grown = rw (c.in_ok-put_numbered_box.ensures.grown, c.in_ok-push_number.ensures.grown, c.in_ok-push.ensures.grown) (simp growing) }

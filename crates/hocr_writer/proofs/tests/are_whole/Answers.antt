@@ -1,4 +1,4 @@
-use Rattle.std.proofs.Common.{◌≡◌, ◌∙◌, ◌<◌, List, length, get_or, take, Some, Option, refl, sym, ap, subst, arith, ⊎_elim}
+use Rattle.std.proofs.Common.{◌≡◌, ◌∙◌, ◌<◌, List, length, get_or, take, Some, Option, false, refl, sym, ap, subst, arith, ⊎_elim}
 use Rattle.std.specs.Prelude.{All}
 use Rattle.std.proofs.lemmas.Bool.{false≢true, cases_lt}
 use Rattle.std.proofs.lemmas.List.{take_all}
@@ -24,6 +24,7 @@ loop-place-preserved c =
     let whole : IsWholeLayout layout = (c.is_whole.ensures).0 c.if-not-is_whole.false in
     let here : slice_get layouts place ≡ Some layout = slice_get_read layouts (length layouts) place layout refl below at in
     record {
+      bare = All-more (λ (l : Layout). l.with_words ≡ false) layouts place layout below c.loop-place.invariant.bare (subst (λ (l : Layout). l.with_words ≡ false) at c.if-layout-place-2.false);
       whole = All-more IsWholeLayout layouts place layout below c.loop-place.invariant.whole (subst IsWholeLayout at whole);
       numbered = λ k other more there.
           ⊎_elim
@@ -44,6 +45,8 @@ returns c =
     let all : take c.loop-place.place layouts ≡ layouts = take_all c.loop-place.place layouts (omega (arith, long, c.loop-place-test.false)) in
     λ yes.
     record {
+      with_words = false;
+      alike = subst (λ (l : List Layout). All (λ layout. layout.with_words ≡ false) l) all c.loop-place.invariant.bare;
       some = λ none. absurd (false≢true (sym c.if-is_empty.false ∙ (c.is_empty.ensures.empty).1 none));
       whole = subst (λ (l : List Layout). All IsWholeLayout l) all c.loop-place.invariant.whole;
       numbered = λ place layout at.

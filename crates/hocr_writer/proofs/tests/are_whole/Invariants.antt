@@ -1,4 +1,4 @@
-use Rattle.std.proofs.Common.{◌≡◌, ◌<◌, ℕ, take, Some}
+use Rattle.std.proofs.Common.{◌≡◌, ◌<◌, ℕ, take, Some, false}
 use Rattle.std.specs.Prelude.{All}
 use Rattle.std.specs.List.{slice_get}
 use Rattle.hocr_writer.specs.declared.layout.Layout.{Layout}
@@ -9,5 +9,6 @@ use Rattle.hocr_writer.proofs.tests.are_whole.Given as goal
 abbrev pub invariant-loop-place : goal.invariant-loop-place
 invariant-loop-place l = record {
   whole : All IsWholeLayout (take l.place l.layouts);
+  bare : All (λ layout. layout.with_words ≡ false) (take l.place l.layouts);
   numbered : (k : ℕ) (layout : Layout) → k < l.place → slice_get l.layouts k ≡ Some layout → layout.page ≡ k;
 }
