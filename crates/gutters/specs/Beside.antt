@@ -2,12 +2,20 @@
 use Rattle.std.specs.Prelude.{ℕ, ◌-◌, ◌*◌, ◌<◌, ◌≤◌, ◌&&◌, Bool, nat_lt, nat_le}
 use Rattle.layout_geom.specs.declared.rect.Rect.{Rect}
 use Rattle.components.specs.Kept.{IsCharSized, is_char_sized}
+use Rattle.gutters.specs.declared.beside.Side.{Side}
+use Rattle.gutters.specs.declared.beside.Side.TheVariants.{Left, Right}
 use Rattle.gutters.specs.declared.beside.TheConstants.{MAX_GAP_IN_MEDIANS}
 
 -- Some row of pixels goes through both.
 pub record SharesRow (r s : Rect) : Type 0 where
   pub top : r.y0 < s.y1
   pub bottom : s.y0 < r.y1
+
+-- The left one ends left of the right one, at most MAX_GAP_IN_MEDIANS times the median height away, with a row in common.
+pub record EndsNear (left right : Rect) (median : ℕ) : Type 0 where
+  pub apart : left.x1 ≤ right.x0
+  pub near : right.x0 - left.x1 ≤ MAX_GAP_IN_MEDIANS * median
+  pub row : SharesRow left right
 
 -- The box has about the size of a character and ends left of the rectangle, at most MAX_GAP_IN_MEDIANS times the median
 -- height away, with a row in common.
@@ -40,3 +48,7 @@ stands_right rect median box =
     is_char_sized box median
     && (nat_le rect.x1 box.x0 && nat_le (box.x0 - rect.x1) (MAX_GAP_IN_MEDIANS * median))
     && shares_row box rect
+
+abbrev pub stands_beside : Side → Rect → ℕ → Rect → Bool
+stands_beside Left rect median box = stands_left rect median box
+stands_beside Right rect median box = stands_right rect median box

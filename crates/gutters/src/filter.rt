@@ -1,8 +1,8 @@
 //! The filter that keeps the gutters of a list of white rectangles.
 ghost use Rattle.std.specs.Prelude.{◌≡◌, ◌≤◌, ◌↔◌, IsTrue, IfOk, All, Contains};
-ghost use Rattle.gutters.specs.Gutters.{left_count, right_count, IsGutter, is_gutter as gutter_test, gutters_of};
+ghost use Rattle.gutters.specs.Gutters.{beside_count, IsGutter, is_gutter as gutter_test, gutters_of};
 
-use crate::beside::{stands_left, stands_right};
+use crate::beside::{Side, stands_beside};
 use components::Kept;
 use layout_geom::{Rect, Rects};
 use layout_limits::OutOfMemory;
@@ -14,28 +14,16 @@ pub const LEAST_BOXES: usize = 3;
 /// How many times as high as wide a gutter is at least.
 pub const LEAST_RATIO: u32 = 3;
 
-/// Whether enough of the kept boxes stand on the left of a rectangle.
-fn has_left(rect: &Rect, kept: &Kept) -> bool
-    ensures { IsTrue result ↔ (LEAST_BOXES ≤ left_count kept.now rect.now) }
+/// Whether enough of the kept boxes stand on a side of a rectangle.
+fn has_beside(side: Side, rect: &Rect, kept: &Kept) -> bool
+    ensures { IsTrue result ↔ (LEAST_BOXES ≤ beside_count side kept.now rect.now) }
 {
     let boxes = kept.boxes.as_slice();
-    let left = boxes
+    let count = boxes
         .iter()
-        .filter(|char_box| stands_left(rect, kept.median, char_box))
+        .filter(|char_box| stands_beside(side, rect, kept.median, char_box))
         .count();
-    left >= LEAST_BOXES
-}
-
-/// Whether enough of the kept boxes stand on its right.
-fn has_right(rect: &Rect, kept: &Kept) -> bool
-    ensures { IsTrue result ↔ (LEAST_BOXES ≤ right_count kept.now rect.now) }
-{
-    let boxes = kept.boxes.as_slice();
-    let right = boxes
-        .iter()
-        .filter(|char_box| stands_right(rect, kept.median, char_box))
-        .count();
-    right >= LEAST_BOXES
+    count >= LEAST_BOXES
 }
 
 /// Whether the rectangle is a gutter among the kept boxes: it is at least `LEAST_RATIO` times as high
@@ -48,8 +36,8 @@ pub fn is_gutter(rect: &Rect, kept: &Kept) -> bool
     ensures test { result ≡ gutter_test kept.now rect.now }
 {
     u32::from(rect.height()) >= LEAST_RATIO * u32::from(rect.width())
-        && has_left(rect, kept)
-        && has_right(rect, kept)
+        && has_beside(Side::Left, rect, kept)
+        && has_beside(Side::Right, rect, kept)
 }
 
 /// The gutters among the white rectangles of a page, in the order of these: those of which

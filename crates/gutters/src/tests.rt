@@ -8,12 +8,10 @@ use std::process::Abort;
 use std::test::Fail;
 
 /// The rectangles of these sides, each `x0 y0 x1 y1`.
-fn rects(alloc: Global, sides: &[[u16; 4]]) -> Result<Rects, OutOfMemory> {
+fn rects(alloc: Global, sides: &[[u16; 4]]) -> Result<Rects, Fail> {
     let mut rects = Rects::new(alloc);
     for [x0, y0, x1, y1] in sides {
-        if let Some(rect) = Rect::new(*x0, *y0, *x1, *y1) {
-            rects.push(rect)?;
-        }
+        rects.push(Rect::new(*x0, *y0, *x1, *y1).ok_or("no rectangle")?)?;
     }
     Ok(rects)
 }
@@ -74,7 +72,7 @@ fn has_gutters(
     kept: &Kept,
     whites: &[[u16; 4]],
     wanted: &[[u16; 4]],
-) -> Result<bool, OutOfMemory> {
+) -> Result<bool, Fail> {
     let whites = rects(alloc, whites)?;
     let wanted = rects(alloc, wanted)?;
     let found = gutters(alloc, &whites, kept)?;
@@ -119,11 +117,7 @@ fn gutters_keep_the_order_of_the_white_rectangles(rt: HostRuntime) -> Result<(),
 }
 
 /// Whether a white rectangle is a gutter among blocks at these places.
-fn is_gutter_among(
-    alloc: Global,
-    sides: [u16; 4],
-    places: &[[u16; 2]],
-) -> Result<bool, OutOfMemory> {
+fn is_gutter_among(alloc: Global, sides: [u16; 4], places: &[[u16; 2]]) -> Result<bool, Fail> {
     let kept = blocks(alloc, places)?;
     let whites = rects(alloc, &[sides])?;
     Ok(

@@ -47,15 +47,16 @@ fn some_numbers_are_no_keys(rt: HostRuntime) {
 
 #[test]
 fn some_sides_are_of_no_rectangle(rt: HostRuntime) {
+    // The first column and the one behind the last, and the same of the rows.
     let cases = [
-        (3, 0, 3, 5),
-        (0, 5, 4, 5),
-        (4, 0, 3, 5),
-        (0, 0, 8193, 1),
-        (0, 0, 1, 8193),
-        (0, 0, 8192, 4097),
+        ([3, 3], [0, 5]),
+        ([0, 4], [5, 5]),
+        ([4, 3], [0, 5]),
+        ([0, 8193], [0, 1]),
+        ([0, 1], [0, 8193]),
+        ([0, 8192], [0, 4097]),
     ];
-    for (x0, y0, x1, y1) in cases {
+    for ([x0, x1], [y0, y1]) in cases {
         assert_eq!(rt; Rect::new(x0, y0, x1, y1), None, "{x0} {y0} {x1} {y1}");
     }
 }

@@ -1,5 +1,5 @@
 -- Why some part has no less than a column of a line.
-use Rattle.std.proofs.Common.{◌≡◌, ℕ, zero, suc, ◌+◌, ◌<◌, ◌≤◌, ◌&&◌, leb, ℤ, pos, ◌≤ℤ◌, ◌<ℤ◌, int_lt, int_le, Bool, true, false, cond, eqb, List, [], ◌∷◌, length, get_or, set, get_or-set_same, get_or-set_other, arith, refl, sym, ◌∙◌, ap, subst, ◌⊎◌, inl, inr, ⊎_elim}
+use Rattle.std.proofs.Common.{◌≡◌, ℕ, zero, suc, ◌+◌, ◌<◌, ◌≤◌, ◌&&◌, leb, ℤ, pos, ◌≤ℤ◌, ◌<ℤ◌, int_lt, int_le, Bool, true, false, cond, eqb, List, [], ◌∷◌, length, get_or, arith, refl, ap, ◌⊎◌, inl, inr, ⊎_elim}
 use Rattle.std.specs.List.{count_by}
 use Rattle.std.proofs.lemmas.List.Sums.{sum_by-cons}
 use Rattle.std.proofs.lemmas.Int.{ints}
@@ -8,7 +8,7 @@ use Rattle.std.proofs.lemmas.Bool.Decides.{nat_tests}
 use Rattle.layout_geom.specs.declared.rect.Rect.{Rect}
 use Rattle.line_quality.specs.Points.{height_at, middle_of, is_crossed, Crosses}
 use Rattle.line_counts.specs.Fits.{segment_of, column_of_segment}
-use Rattle.line_counts.specs.Tops.{of_column, weighed}
+use Rattle.line_counts.specs.Tops.{of_column}
 use Rattle.line_counts.proofs.Summing.{of_none, of_next}
 
 count : (p : Rect → Bool) (g : Rect) (gs : List Rect) → count_by p (g ∷ gs) ≡ cond (p g) 1 0 + count_by p gs
@@ -108,94 +108,34 @@ next_column col amount grows n sum new_sum sum_is here =
     omega (arith, of_kept col amount k n differs, of_empty col amount k n (λ s before. omega (arith, less, grows s n (omega (arith, before))))))
     (cases_eq k (col n))
 
--- some part up to the last has what the first segments add to the column, place by place
-pub record HasPart (col : ℕ → ℕ) (amount : ℕ → ℕ → ℕ) (all k n last : ℕ) (parts : List (List ℕ)) : Type 0 where
-  pub part : ℕ
-  pub inside : part ≤ last
-  pub enough : (place : ℕ) → place < all → of_column col (amount place) k n ≤ get_or (get_or parts part []) place 0
-
-module _ (col : ℕ → ℕ) (amount : ℕ → ℕ → ℕ) (all k n last next_last : ℕ) (parts : List (List ℕ)) (sums : List ℕ) where
-  is_last : next_last ≡ last → (place : ℕ) → get_or (get_or parts next_last []) place 0 ≡ get_or (get_or parts last []) place 0
-  is_last same place = ap (λ (g : ℕ). get_or (get_or parts g []) place 0) same
-
-  -- one segment more: its column is in the last part, and the others are where they were
-  pub part_more : next_last < length parts → HasPart col amount all k n last parts → last ≤ next_last
-      → ((place : ℕ) → place < all → of_column col (amount place) (col n) n + amount place n ≤ get_or sums place 0)
-      → (next_last ≡ last → (place : ℕ) → place < all → get_or (get_or parts last []) place 0 ≤ get_or sums place 0)
-      → HasPart col amount all k (n + 1) next_last (set parts next_last sums)
-  part_more within held order here grown = ⊎_elim
-      (λ same. record {
-        part = next_last;
-        inside = omega arith;
-        enough = λ place less.
-            omega (
-              arith,
-              of_joined col (amount place) k n same,
-              here place less,
-              ap (λ (xs : List ℕ). get_or xs place 0) (get_or-set_same parts next_last sums [] within),
-            );
-      })
-      (λ differs. ⊎_elim
-      (λ last_one. record {
-        part = next_last;
-        inside = omega arith;
-        enough = λ place less.
-            omega (
-              arith,
-              of_kept col (amount place) k n differs,
-              held.enough place less,
-              ap (λ (g : ℕ). get_or (get_or parts g []) place 0) last_one,
-              grown (omega (arith, last_one, order, held.inside)) place less,
-              is_last (omega (arith, last_one, order, held.inside)) place,
-              ap (λ (xs : List ℕ). get_or xs place 0) (get_or-set_same parts next_last sums [] within),
-            );
-      })
-      (λ earlier. record {
-        part = held.part;
-        inside = omega (arith, held.inside, order);
-        enough = λ place less.
-            omega (
-              arith,
-              of_kept col (amount place) k n differs,
-              held.enough place less,
-              ap (λ (xs : List ℕ). get_or xs place 0) (get_or-set_other parts next_last held.part sums [] earlier),
-            );
-      })
-      (cases_eq held.part next_last))
-      (cases_eq k (col n))
-
--- a part that weighs no more than the most has what the first segments add to the column, place by place
-pub record IsPassed (col : ℕ → ℕ) (amount : ℕ → ℕ → ℕ) (all k n most : ℕ) : Type 0 where
+-- a part that is done with has what the first segments add to the column, place by place
+pub record IsPassed (col : ℕ → ℕ) (amount : ℕ → ℕ → ℕ) (all k n : ℕ) (done : List ℕ → Type 0) : Type 0 where
   pub part : List ℕ
   pub enough : (place : ℕ) → place < all → of_column col (amount place) k n ≤ get_or part place 0
-  pub low : (more depth : ℕ) → more < 64 → depth ≤ 63 → weighed part more depth ≤ most
+  pub low : done part
 
 -- or the sums have it
-abbrev pub IsCovered : (ℕ → ℕ) → (ℕ → ℕ → ℕ) → ℕ → ℕ → ℕ → ℕ → List ℕ → Type 0
-IsCovered col amount all k n most sums =
-    IsPassed col amount all k n most ⊎ ((place : ℕ) → place < all → of_column col (amount place) k n ≤ get_or sums place 0)
+abbrev pub IsCovered : (ℕ → ℕ) → (ℕ → ℕ → ℕ) → ℕ → ℕ → ℕ → (List ℕ → Type 0) → List ℕ → Type 0
+IsCovered col amount all k n done sums =
+    IsPassed col amount all k n done ⊎ ((place : ℕ) → place < all → of_column col (amount place) k n ≤ get_or sums place 0)
 
--- a part ends: the sums weigh no more than the most
-pub all_passed : (col : ℕ → ℕ) (amount : ℕ → ℕ → ℕ) (all k n most new_most : ℕ) (sums : List ℕ) → most ≤ new_most
-    → ((more depth : ℕ) → more < 64 → depth ≤ 63 → weighed sums more depth ≤ new_most) → IsCovered col amount all k n most sums → IsPassed col amount all k n new_most
-all_passed col amount all k n most new_most sums order low held = ⊎_elim
-    (λ (passed : IsPassed col amount all k n most). record {
-      part = passed.part;
-      enough = passed.enough;
-      low = λ more depth less deep. omega (arith, order, passed.low more depth less deep);
-    })
+-- a part ends: the sums are done with
+pub all_passed : (col : ℕ → ℕ) (amount : ℕ → ℕ → ℕ) (all k n : ℕ) (was done : List ℕ → Type 0) (sums : List ℕ)
+    → ((part : List ℕ) → was part → done part) → done sums → IsCovered col amount all k n was sums → IsPassed col amount all k n done
+all_passed col amount all k n was done sums still low held = ⊎_elim
+    (λ (passed : IsPassed col amount all k n was). record { part = passed.part; enough = passed.enough; low = still passed.part passed.low })
     (λ (here : (place : ℕ) → place < all → of_column col (amount place) k n ≤ get_or sums place 0). record { part = sums; enough = here; low = low })
     held
 
 -- one segment more: its column is in the sums, and the others are where they were
-pub covered_more : (col : ℕ → ℕ) (amount : ℕ → ℕ → ℕ) (all k n most : ℕ) (sums new_sums : List ℕ)
+pub covered_more : (col : ℕ → ℕ) (amount : ℕ → ℕ → ℕ) (all k n : ℕ) (done : List ℕ → Type 0) (sums new_sums : List ℕ)
     → ((place : ℕ) → place < all → get_or new_sums place 0 ≡ get_or sums place 0 + amount place n)
     → ((place : ℕ) → place < all → of_column col (amount place) (col n) n ≤ get_or sums place 0)
-    → IsCovered col amount all k n most sums → IsCovered col amount all k (n + 1) most new_sums
-covered_more col amount all k n most sums new_sums added here held = ⊎_elim
+    → IsCovered col amount all k n done sums → IsCovered col amount all k (n + 1) done new_sums
+covered_more col amount all k n done sums new_sums added here held = ⊎_elim
     (λ same. inr (λ place less. omega (arith, of_joined col (amount place) k n same, here place less, added place less)))
     (λ differs. ⊎_elim
-    (λ (passed : IsPassed col amount all k n most). inl (record {
+    (λ (passed : IsPassed col amount all k n done). inl (record {
       part = passed.part;
       enough = λ place less. omega (arith, of_kept col (amount place) k n differs, passed.enough place less);
       low = passed.low;
@@ -204,10 +144,3 @@ covered_more col amount all k n most sums new_sums added here held = ⊎_elim
     inr (λ place less. omega (arith, of_kept col (amount place) k n differs, in_sums place less, added place less)))
     held)
     (cases_eq k (col n))
-
--- a list of parts with one set
-pub part_set : (P : List ℕ → Type 0) (parts : List (List ℕ)) (i : ℕ) (sums : List ℕ) → i < length parts → P sums → (g : ℕ) → P (get_or parts g []) → P (get_or (set parts i sums) g [])
-part_set P parts i sums within new g old = ⊎_elim
-    (λ same. subst P (sym (ap (λ (n : ℕ). get_or (set parts i sums) n []) same ∙ get_or-set_same parts i sums [] within)) new)
-    (λ differs. subst P (sym (get_or-set_other parts i g sums [] differs)) old)
-    (cases_eq g i)

@@ -1,5 +1,5 @@
 -- The cells of a table, each in its own place.
-use Rattle.std.proofs.Common.{◌≡◌, ℕ, ◌+◌, ◌-◌, ◌*◌, ◌/◌, ◌%◌, ◌<◌, ◌≤◌, ◌&&◌, Bool, eqb, leb, ltb, cond, List, length, get_or, set, arith, refl, sym, ◌∙◌, ap, ⊎_elim, get_or-set_same, get_or-set_other}
+use Rattle.std.proofs.Common.{◌≡◌, ℕ, ◌+◌, ◌-◌, ◌*◌, ◌/◌, ◌%◌, ◌<◌, ◌≤◌, ◌&&◌, Bool, eqb, leb, ltb, cond, List, length, get_or, set, arith, refl, sym, ◌∙◌, ap, ⊎_elim, get_or-set_same, get_or-set_other, subst}
 use Rattle.std.proofs.Math.ListN.{length-set}
 use Rattle.std.proofs.lemmas.Nat.{mul-add-lt, div-mul-add, mod-mul-add}
 use Rattle.std.proofs.lemmas.List.Sums.{count_by-le-length}
@@ -104,9 +104,9 @@ module _ (count : ℕ) (gutters : List Rect) (width : ℕ) (r : Rect) (counted :
   same_cell number segment place slopes segments places = rw (slopes, ← segments, ← places) refl
 
   -- one more cell goes up
-  pub raised_more : (before after : List ℕ) → IsRaisedTo count gutters width r before after → own_cell gutters width r count < length after
+  raised_here : (before after : List ℕ) → IsRaisedTo count gutters width r before after → own_cell gutters width r count < length after
       → IsRaisedTo (count + 1) gutters width r before (set after (own_cell gutters width r count) (get_or after (own_cell gutters width r count) 0 + 1))
-  raised_more before after raised within = record {
+  raised_here before after raised within = record {
     long = length-set after (own_cell gutters width r count) (get_or after (own_cell gutters width r count) 0 + 1) ∙ raised.long;
     each = λ number segment place numbered few less. ⊎_elim
         (λ same.
@@ -131,10 +131,10 @@ module _ (count : ℕ) (gutters : List Rect) (width : ℕ) (r : Rect) (counted :
   }
 
   -- one more cell goes down
-  pub lowered_more : (before after : List ℕ) → IsRaisedTo count gutters width r after before → own_cell gutters width r count < length after
+  lowered_here : (before after : List ℕ) → IsRaisedTo count gutters width r after before → own_cell gutters width r count < length after
       → 0 < get_or before (own_cell gutters width r count) 0
       → IsRaisedTo (count + 1) gutters width r (set after (own_cell gutters width r count) (get_or after (own_cell gutters width r count) 0 - 1)) before
-  lowered_more before after raised within some = record {
+  lowered_here before after raised within some = record {
     long = raised.long ∙ sym (length-set after (own_cell gutters width r count) (get_or after (own_cell gutters width r count) 0 - 1));
     each = λ number segment place numbered few less. ⊎_elim
         (λ same.
@@ -158,6 +158,17 @@ module _ (count : ℕ) (gutters : List Rect) (width : ℕ) (r : Rect) (counted :
         ))
         (cases_eq (cell_of (length gutters + 1) width number segment place) (own_cell gutters width r count));
   }
+
+  -- by the place at which the code has it
+  pub raised_more : (before after : List ℕ) (at : ℕ) → at ≡ own_cell gutters width r count → own_cell gutters width r count < length after → IsRaisedTo count gutters width r before after
+      → IsRaisedTo (count + 1) gutters width r before (set after at (get_or after at 0 + 1))
+  raised_more before after at is within raised =
+      subst (λ (k : ℕ). IsRaisedTo (count + 1) gutters width r before (set after k (get_or after k 0 + 1))) (sym is) (raised_here before after raised within)
+
+  pub lowered_more : (before after : List ℕ) (at : ℕ) → at ≡ own_cell gutters width r count → own_cell gutters width r count < length after → 0 < get_or before (own_cell gutters width r count) 0
+      → IsRaisedTo count gutters width r after before → IsRaisedTo (count + 1) gutters width r (set after at (get_or after at 0 - 1)) before
+  lowered_more before after at is within some raised =
+      subst (λ (k : ℕ). IsRaisedTo (count + 1) gutters width r (set after k (get_or after k 0 - 1)) before) (sym is) (lowered_here before after raised within some)
 
 all_slopes : (n g s q p : ℕ) → n < 65 → one_if (ltb n 65 && (eqb g s && eqb q p)) ≡ one_if (eqb g s && eqb q p)
 all_slopes n g s q p numbered = grind (arith, nat_tests)

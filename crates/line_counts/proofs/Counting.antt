@@ -109,12 +109,18 @@ pub record IsRead (boxes : List Rect) (width position : ℕ) (r : Rect) : Type 0
   pub at : slice_get boxes position ≡ Some r
   pub wide : r.y1 + 672 ≤ width
 
-pub reads : (boxes : List Rect) (width position : ℕ) (r : Rect) → position < length boxes → All (λ box. box.y1 + 672 ≤ width) boxes
+reads : (boxes : List Rect) (width position : ℕ) (r : Rect) → position < length boxes → All (λ box. box.y1 + 672 ≤ width) boxes
     → r ≡ get_or boxes position r → IsRead boxes width position r
 reads boxes width position r within feet item = record {
   at = slice_get_read boxes (length boxes) position r refl within item;
   wide = subst (λ (box : Rect). box.y1 + 672 ≤ width) (sym item) (All-get_or (λ (box : Rect). box.y1 + 672 ≤ width) boxes position r within feet);
 }
+
+-- at the next of some positions
+pub reads_next : (boxes : List Rect) (width : ℕ) (positions : List ℕ) (i : ℕ) (r : Rect) → i < length positions → All (λ position. position < length boxes) positions
+    → All (λ box. box.y1 + 672 ≤ width) boxes → r ≡ get_or boxes (get_or positions i 0) r → IsRead boxes width (get_or positions i 0) r
+reads_next boxes width positions i r more within feet item =
+    reads boxes width (get_or positions i 0) r (All-get_or (λ (p : ℕ). p < length boxes) positions i 0 more within) feet item
 
 left_from : (members others : List ℕ) (first i k : ℕ) → i ≡ k → first ∷ (drop i members ++ others) ≡ first ∷ (drop k members ++ others)
 left_from members others first i k same = rw same refl

@@ -1,12 +1,11 @@
 -- Why no line scores more than what the counts of some part weigh for it.
-use Rattle.std.proofs.Common.{◌≡◌, ℕ, zero, suc, ◌+◌, ◌*◌, ◌<◌, ◌≤◌, ℤ, pos, negsuc, ◌+ℤ◌, ◌≤ℤ◌, List, [], length, get_or, arith, refl, sym, ap}
+use Rattle.std.proofs.Common.{◌≡◌, ℕ, zero, suc, ◌+◌, ◌*◌, ◌<◌, ◌≤◌, ℤ, pos, negsuc, ◌+ℤ◌, ◌≤ℤ◌, List, length, get_or, arith, refl, sym, ap}
 use Rattle.std.proofs.lemmas.Int.{ints}
 use Rattle.line_quality.specs.KeyLaws.{abs_parts}
 use Rattle.line_quality.specs.Points.{IsSlope}
 use Rattle.line_quality.specs.Scores.{IsScore}
 use Rattle.line_counts.specs.Fits.{column_of_segment, count_of, first_place, segment_weight, weight_behind}
-use Rattle.line_counts.specs.Stretches.{IsOfPage}
-use Rattle.line_counts.specs.Tops.{sum_to, of_column, weighed, count_behind, HasColumn, HaveColumns}
+use Rattle.line_counts.specs.Tops.{sum_to, of_column, weighed, count_behind, HasColumn}
 use Rattle.line_counts.specs.declared.stretch.Stretch.{Stretch}
 use Rattle.line_counts.specs.Table.{LivingPage}
 use Rattle.line_counts.proofs.Segments.{column_weight, column_none, column_more, column_all}
@@ -108,17 +107,4 @@ score_low page stretch more depth score k counts in_slopes low less deep has sco
             of_same cols (λ s. count_of page.boxes page.gutters stretch.slope s (first_place offset + behind) page.alive) (λ s. count_behind page stretch (more + behind) s) k (length page.gutters + 1) there,
             has (more + behind) (omega (arith, less, deep, near)),
           )),
-    )
-
--- and no more than the counts of some part weigh at most
-pub score_most : (page : LivingPage) (stretch : Stretch) (number : ℕ) (parts : List (List ℕ)) (most : ℕ) → IsOfPage page.height stretch → stretch.offsets ≤ 64 → HaveColumns page stretch number parts
-    → ((part more depth : ℕ) → part < number → more < 64 → depth ≤ 63 → weighed (get_or parts part []) more depth ≤ most)
-    → (more depth score k : ℕ) → more < stretch.offsets → depth ≤ stretch.deepest → IsScore stretch.slope (stretch.from +ℤ pos more) depth page.boxes page.gutters page.alive score k → score ≤ most
-score_most page stretch number parts most of_page few has below more depth score k less deep scored =
-    let held = has more k less in
-    let counts : List ℕ = get_or parts held.0 [] in
-    omega (
-      arith,
-      score_low page stretch more depth score k counts of_page.slope_in of_page.low less deep held.2 scored,
-      below held.0 more depth held.1 (omega (arith, less, few)) (omega (arith, deep, of_page.shallow)),
     )

@@ -42,6 +42,11 @@ module _ (page : LivingPage) (least deepest number more : ℕ) (spans : List Spa
       was.alive was.members page.alive was.divided spanned.1 in
       record { over = key_over; plain = omega (arith, stays, (was.was.keys.each number numbered).plain) }
 
+  -- or where that is no less
+  pub key_under : get_or block.keys number 0 ≤ plain_key page.boxes page.alive (lines_of (slope_of number) block.from block.offsets deepest)
+      → IsKeyBound page least (lines_of (slope_of number) block.from block.offsets deepest) (get_or block.keys number 0)
+  key_under low = record { over = key_over; plain = low }
+
   -- or where it is lowered to that
   pub key_lowered : (plain key : ℕ) → key ≡ min (get_or block.keys number 0) plain → IsKeyBound page least (lines_of (slope_of number) block.from block.offsets deepest) plain
       → IsKeyBound page least (lines_of (slope_of number) block.from block.offsets deepest) key

@@ -8,6 +8,7 @@ pub mod Rows
 pub mod Segments
 pub mod Joining
 pub mod Bounding
+pub mod Running
 pub mod Heaviest
 pub mod Passing
 pub mod Growing

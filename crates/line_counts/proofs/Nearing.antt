@@ -2,9 +2,8 @@
 use Rattle.std.proofs.Common.{◌≡◌, ℕ, ◌+◌, ◌-◌, ◌*◌, ◌<◌, ◌≤◌, ℤ, pos, negsuc, ◌+ℤ◌, ◌-ℤ◌, ◌≤ℤ◌, unsigned_abs, Bool, true, false, leb, ltb, cond, List, length, get_or, Option, Some, None, slice_get, arith, refl, sym, ◌∙◌, ap}
 use Rattle.std.specs.List.{sum_by}
 use Rattle.std.specs.Int.{int_gap}
-use Rattle.std.proofs.Math.Nat.{mul-le-mul}
 use Rattle.std.proofs.lemmas.Int.{ints}
-use Rattle.std.proofs.lemmas.List.Sums.{count_by-le-length}
+use Rattle.std.proofs.lemmas.List.Sums.{count_by-le-length, sum_by-le-sum_by}
 use Rattle.std.proofs.lemmas.Bool.Decides.{nat_tests}
 use Rattle.layout_geom.specs.declared.rect.Rect.{Rect}
 use Rattle.line_quality.specs.Points.{IsSlope, rise, middle_of, weight_at}
@@ -12,7 +11,7 @@ use Rattle.line_quality.specs.KeyLaws.{abs_parts}
 use Rattle.line_counts.specs.Fits.{segment_of, is_in, place_of, first_place, count_of}
 use Rattle.line_counts.specs.Plain.{plain_weight, lowest, highest}
 use Rattle.line_counts.specs.Blocks.{lines_of, plain_segment}
-use Rattle.line_counts.proofs.Places.{rises_little, middle_small, weight_low}
+use Rattle.line_counts.proofs.Places.{far_weight, rises_little, middle_small, weight_low}
 use Rattle.line_counts.proofs.Growing.{int_gap_is}
 use Rattle.line_counts.proofs.Weighing.{sum_before, sum_none, sum_next, sum_all, sum_two, same_sum, no_sum, low_sum, place_more}
 
@@ -49,9 +48,6 @@ module _ (slope from : ℤ) (offsets deepest more : ℕ) (in_slopes : IsSlope sl
   pub same_rows : (o : Option Rect) → plain_weight (lines_of slope from 1 more) o ≡ plain_weight (lines_of slope from offsets deepest) o
   same_rows (Some r) = near_place slope from 1 more more in_slopes above (omega arith) r ∙ sym (near_place slope from offsets deepest more in_slopes above rows r)
   same_rows None = refl
-
-far_weight : (gap : ℕ) → 5 ≤ gap → weight_at gap ≡ 0
-far_weight gap far = let squares : 5 * 5 ≤ gap * gap = mul-le-mul far far in omega arith
 
 pub nothing_before : (first more place : ℕ) → place < first → near_there first more place ≡ 0
 nothing_before first more place before = far_weight _ (omega arith)
@@ -141,6 +137,10 @@ module _ (boxes gutters : List Rect) (slope from : ℤ) (more segment : ℕ) (in
           → total ≡ near_before boxes gutters slope from more segment (first_place from + next) positions
       at_next behind next total same there = there ∙ ap (λ (n : ℕ). near_before boxes gutters slope from more segment (first_place from + n) positions) same
 
+cond_less : (b : Bool) (w : ℕ) → cond b w 0 ≤ w
+cond_less true w = omega arith
+cond_less false w = omega arith
+
 cond_low : (b : Bool) (w : ℕ) → w ≤ 25 → cond b w 0 ≤ 25
 cond_low true w low = low
 cond_low false w low = omega arith
@@ -211,3 +211,11 @@ module _ (boxes gutters : List Rect) (slope from : ℤ) (more : ℕ) where
       same_sum (λ position. cond (is_among gutters n (slice_get boxes position)) (plain_weight (lines_of slope from 1 more) (slice_get boxes position)) 0)
       (λ position. plain_weight (lines_of slope from 1 more) (slice_get boxes position))
       (λ position. every_among n all (slice_get boxes position)) positions
+
+  -- the first segments have no more than all
+  pub among_least : (n : ℕ) (positions : List ℕ) → near_among boxes gutters slope from more n positions
+      ≤ sum_by (λ position. plain_weight (lines_of slope from 1 more) (slice_get boxes position)) positions
+  among_least n positions =
+      sum_by-le-sum_by (λ position. cond (is_among gutters n (slice_get boxes position)) (plain_weight (lines_of slope from 1 more) (slice_get boxes position)) 0)
+      (λ position. plain_weight (lines_of slope from 1 more) (slice_get boxes position)) positions
+      (λ position. cond_less (is_among gutters n (slice_get boxes position)) (plain_weight (lines_of slope from 1 more) (slice_get boxes position)))

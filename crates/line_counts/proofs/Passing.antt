@@ -1,13 +1,15 @@
 -- Why a line is passed over that cannot score enough for a greater key.
-use Rattle.std.proofs.Common.{◌≡◌, ℕ, ◌+◌, ◌*◌, ◌/◌, ◌^◌, ◌<◌, ◌≤◌, min, max, ℤ, pos, negsuc, ◌+ℤ◌, ◌-ℤ◌, ◌≤ℤ◌, ◌<ℤ◌, unsigned_abs, length, arith, subst}
+use Rattle.std.proofs.Common.{◌≡◌, ℕ, ◌+◌, ◌*◌, ◌/◌, ◌^◌, ◌<◌, ◌≤◌, min, max, ℤ, pos, negsuc, ◌+ℤ◌, ◌-ℤ◌, ◌≤ℤ◌, ◌<ℤ◌, unsigned_abs, to_z, of_z, w8, w16, List, length, inl, inr, ⊎_elim, arith, refl, sym, subst}
 use Rattle.std.proofs.lemmas.Int.{ints}
 use Rattle.line_quality.specs.KeyLaws.{abs_parts}
 use Rattle.line_quality.specs.Keys.{line_key}
 use Rattle.line_quality.specs.Scores.{IsScore}
 use Rattle.line_counts.specs.declared.stretch.Stretch.{Stretch}
 use Rattle.line_counts.specs.Table.{LivingPage}
-use Rattle.line_counts.specs.Stretches.{IsKeyAt, IsKeyIn, IsGreaterKey}
-use Rattle.line_counts.proofs.Joining.{none_since}
+use Rattle.line_counts.specs.Stretches.{IsKeyAt, IsKeyIn, IsOfPage, IsGreaterKey, IsRisen, IsBeaten}
+use Rattle.line_counts.specs.Tops.{HasColumn, AreBeaten}
+use Rattle.line_counts.proofs.Heaviest.{score_low}
+use Rattle.line_counts.proofs.Places.{held_slope}
 use Rattle.line_counts.proofs.Segments.{column_all, column_small}
 
 -- so few boxes weigh little together
@@ -26,13 +28,10 @@ abbrev pub IsBeatenBelow : ℤ → ℤ → ℕ → ℕ → ℕ → ℕ → Type 
 IsBeatenBelow slope offset depth least top best = (score : ℕ) → score ≤ top → score ≤ 1500000 → least ≤ score → (0 < best) × (line_key score slope offset depth ≤ best)
 
 -- a line
-pub line_passed : (page : LivingPage) (least best top : ℕ) (slope offset : ℤ) (depth : ℕ) → length page.alive ≤ 60000
-    → ((score k : ℕ) → IsScore slope offset depth page.boxes page.gutters page.alive score k → score ≤ top)
-    → IsBeatenBelow slope offset depth least top best → IsGreaterKey (IsKeyAt page least slope offset depth) best best
-line_passed page least best top slope offset depth few low beaten = none_since (IsKeyAt page least slope offset depth) best
-    (λ key at.
-    let less = beaten at.score (low at.score at.in_column at.scored) (score_small page slope offset depth at.score at.in_column few at.scored) at.enough in
-    (less.0, omega (arith, less.1, at.has_key)))
+pub line_beaten : (page : LivingPage) (least best top : ℕ) (stretch : Stretch) (more depth : ℕ) → length page.alive ≤ 60000
+    → IsBeatenBelow stretch.slope (stretch.from +ℤ pos more) depth least top best → IsBeaten page least stretch more depth top best
+line_beaten page least best top stretch more depth few below score k scored enough low =
+    below score low (score_small page stretch.slope (stretch.from +ℤ pos more) depth score k few scored) enough
 
 -- the greater offset has the lesser key
 key_falls : (score : ℕ) (slope from offset : ℤ) (depth : ℕ) → negsuc 299 ≤ℤ from → from ≤ℤ offset → line_key score slope offset depth ≤ line_key score slope from depth
@@ -46,21 +45,37 @@ behind_first from offset count low high = (
   omega (arith, ints, abs_parts (offset -ℤ from)),
 )
 
--- all lines of a row, where that of the least offset is passed over by the greatest top
-pub row_passed : (page : LivingPage) (row : Stretch) (least best top : ℕ) → length page.alive ≤ 60000 → negsuc 299 ≤ℤ row.from → row.shallowest ≡ row.deepest
-    → ((more score k : ℕ) → more < row.offsets → IsScore row.slope (row.from +ℤ pos more) row.deepest page.boxes page.gutters page.alive score k → score ≤ top)
-    → IsBeatenBelow row.slope row.from row.deepest least top best → IsGreaterKey (IsKeyIn page least row) best best
-row_passed page row least best top few low one below beaten = none_since (IsKeyIn page least row) best
-    (λ key is.
-    let there = behind_first row.from is.offset row.offsets is.from_offset is.to_offset in
-    let depth_is : is.of.depth ≡ row.deepest = omega (arith, one, is.of.from_depth, is.of.to_depth) in
-    let at : IsKeyAt page least row.slope (row.from +ℤ pos there.0) row.deepest key =
-    subst (λ (o : ℤ). IsKeyAt page least row.slope o row.deepest key) there.2 (subst (λ (d : ℕ). IsKeyAt page least row.slope is.offset d key) depth_is is.of.at) in
-    let less = beaten at.score (below there.0 at.score at.in_column there.1 at.scored) (score_small page row.slope (row.from +ℤ pos there.0) row.deepest at.score at.in_column few at.scored) at.enough in
-    (less.0, omega (arith, less.1, at.has_key, key_falls at.score row.slope row.from (row.from +ℤ pos there.0) row.deepest low (further row.from there.0))))
+further : (from : ℤ) (more : ℕ) → from ≤ℤ (from +ℤ pos more)
+further from more = omega (arith, ints)
+
+pub held_first : (height : ℕ) (stretch : Stretch) → IsOfPage height stretch → to_z w16 (of_z w16 stretch.from) ≡ stretch.from
+held_first height stretch of_page = held stretch.from stretch.offsets height of_page.low of_page.high of_page.page
   where
-    further : (from : ℤ) (more : ℕ) → from ≤ℤ (from +ℤ pos more)
-    further from more = omega (arith, ints)
+    held : (from : ℤ) (count height : ℕ) → negsuc 299 ≤ℤ from → (from +ℤ pos count) ≤ℤ pos (height + 300 + 1) → height ≤ 8192 → to_z w16 (of_z w16 from) ≡ from
+    held from count height low high page = omega (arith, ints)
+
+-- any line of a depth, where that of the least offset is passed over by a top that is no less
+pub by_the_first : (page : LivingPage) (least best most top : ℕ) (stretch : Stretch) (more depth : ℕ) → length page.alive ≤ 60000 → IsOfPage page.height stretch → top ≤ most
+    → IsBeatenBelow (to_z w8 (of_z w8 stretch.slope)) (to_z w16 (of_z w16 stretch.from)) depth least most best → IsBeaten page least stretch more depth top best
+by_the_first page least best most top stretch more depth few of_page less below score k scored enough low =
+    let offset : ℤ = stretch.from +ℤ pos more in
+    let first : IsBeatenBelow stretch.slope stretch.from depth least most best =
+    subst (λ (o : ℤ). IsBeatenBelow stretch.slope o depth least most best) (held_first page.height stretch of_page)
+    (subst (λ (s : ℤ). IsBeatenBelow s (to_z w16 (of_z w16 stretch.from)) depth least most best) (held_slope stretch.slope of_page.slope_in) below) in
+    let beaten = first score (omega (arith, low, less)) (score_small page stretch.slope offset depth score k few scored) enough in
+    (beaten.0, omega (arith, beaten.1, key_falls score stretch.slope stretch.from offset depth of_page.low (further stretch.from more)))
+
+-- a line whose key is the best or less
+pub by_itself : (page : LivingPage) (least before best top : ℕ) (stretch : Stretch) (more depth : ℕ) → IsGreaterKey (IsKeyAt page least stretch.slope (stretch.from +ℤ pos more) depth) before best
+    → IsBeaten page least stretch more depth top best
+by_itself page least before best top stretch more depth exact score k scored enough low =
+    exact.greatest (line_key score stretch.slope (stretch.from +ℤ pos more) depth) (record { score = score; in_column = k; scored = scored; enough = enough; has_key = refl })
+
+-- a line that is beaten stays so
+pub still_beaten : (page : LivingPage) (least best word top : ℕ) (stretch : Stretch) (more depth : ℕ) → best ≤ word → IsBeaten page least stretch more depth top best → IsBeaten page least stretch more depth top word
+still_beaten page least best word top stretch more depth rose beaten score k scored enough low =
+    let less = beaten score k scored enough low in
+    (omega (arith, less.0, rose), omega (arith, less.1, rose))
 
 -- the digits behind the score are less than one more of it
 key_below : (score : ℕ) (slope offset : ℤ) (depth : ℕ) → line_key score slope offset depth < (score + 1) * 2 ^ 29
@@ -68,18 +83,6 @@ key_below score slope offset depth = omega arith
 
 less_key : (score best key : ℕ) → key < (score + 1) * 2 ^ 29 → score < best / 2 ^ 29 → (0 < best) × (key ≤ best)
 less_key score best key low less = (omega (arith, low, less), omega (arith, low, less))
-
--- all lines of a stretch, where none scores what it needs
-pub stretch_passed : (page : LivingPage) (stretch : Stretch) (least best most needed : ℕ) → needed ≡ max least (best / 2 ^ 29) → most < needed
-    → ((more depth score k : ℕ) → more < stretch.offsets → depth ≤ stretch.deepest → IsScore stretch.slope (stretch.from +ℤ pos more) depth page.boxes page.gutters page.alive score k → score ≤ most)
-    → IsGreaterKey (IsKeyIn page least stretch) best best
-stretch_passed page stretch least best most needed is little low = none_since (IsKeyIn page least stretch) best
-    (λ key within.
-    let there = behind_first stretch.from within.offset stretch.offsets within.from_offset within.to_offset in
-    let at : IsKeyAt page least stretch.slope (stretch.from +ℤ pos there.0) within.of.depth key =
-    subst (λ (o : ℤ). IsKeyAt page least stretch.slope o within.of.depth key) there.2 within.of.at in
-    let below : at.score ≤ most = low there.0 within.of.depth at.score at.in_column there.1 within.of.to_depth at.scored in
-    less_key at.score best key (omega (arith, at.has_key, key_below at.score stretch.slope (stretch.from +ℤ pos there.0) within.of.depth)) (omega (arith, is, little, below, at.enough)))
 
 -- a line that scores no more has no greater key than the first line of the stretch would have
 key_rises : (score top : ℕ) (slope from offset : ℤ) (shallowest depth : ℕ) → negsuc 299 ≤ℤ from → from ≤ℤ offset → score ≤ top → shallowest ≤ depth → line_key score slope offset depth ≤ line_key top slope from shallowest
@@ -113,9 +116,62 @@ stretch_empty page stretch least most little low key within =
     absurd (omega (arith, little, at.enough, low there.0 within.of.depth at.score at.in_column there.1 within.of.to_depth at.scored))
 
 -- a line whose top is too low for the best key of some while ago, and so for the best one
-pub top_passed : (page : LivingPage) (least ago best top needed : ℕ) (slope offset : ℤ) (depth : ℕ) → needed ≡ max least (ago / 2 ^ 29) → ago ≤ best → top < needed
-    → ((score k : ℕ) → IsScore slope offset depth page.boxes page.gutters page.alive score k → score ≤ top) → IsGreaterKey (IsKeyAt page least slope offset depth) best best
-top_passed page least ago best top needed slope offset depth is rose little low = none_since (IsKeyAt page least slope offset depth) best
-    (λ key at.
-    let less = less_key at.score ago key (omega (arith, at.has_key, key_below at.score slope offset depth)) (omega (arith, is, little, low at.score at.in_column at.scored, at.enough)) in
-    (omega (arith, less.0, rose), omega (arith, less.1, rose)))
+pub by_its_top : (page : LivingPage) (least ago best top needed : ℕ) (stretch : Stretch) (more depth : ℕ) → needed ≡ max least (ago / 2 ^ 29) → ago ≤ best → top < needed
+    → IsBeaten page least stretch more depth top best
+by_its_top page least ago best top needed stretch more depth is rose little score k scored enough low =
+    let key : ℕ = line_key score stretch.slope (stretch.from +ℤ pos more) depth in
+    let less = less_key score ago key (key_below score stretch.slope (stretch.from +ℤ pos more) depth) (omega (arith, is, little, low, enough)) in
+    (omega (arith, less.0, rose), omega (arith, less.1, rose))
+
+-- the best key of several lines, one after the other
+pub risen_on : (P : ℕ → Type 0) (before best word : ℕ) → IsRisen P before best → IsRisen P best word → IsRisen P before word
+risen_on P before best word first second = record {
+  from = ⊎_elim
+      (λ (same : word ≡ best). ⊎_elim
+      (λ (kept : best ≡ before). inl (omega (arith, same, kept)))
+      (λ (some : P best). inr (subst P (sym same) some))
+      first.from)
+      (λ (some : P word). inr some)
+      second.from;
+  no_less = omega (arith, first.no_less, second.no_less);
+}
+
+pub not_risen : (P : ℕ → Type 0) (best : ℕ) → IsRisen P best best
+not_risen P best = record { from = inl refl; no_less = omega arith }
+
+-- a line of the stretch that is as good, or better
+pub risen_by_line : (page : LivingPage) (least before word : ℕ) (stretch : Stretch) (more depth : ℕ) → more < stretch.offsets → stretch.shallowest ≤ depth → depth ≤ stretch.deepest
+    → IsGreaterKey (IsKeyAt page least stretch.slope (stretch.from +ℤ pos more) depth) before word → IsRisen (IsKeyIn page least stretch) before word
+risen_by_line page least before word stretch more depth less shallow deep exact = record {
+  from = ⊎_elim
+      (λ (same : word ≡ before). inl same)
+      (λ (at : IsKeyAt page least stretch.slope (stretch.from +ℤ pos more) depth word). inr (record {
+        offset = stretch.from +ℤ pos more;
+        from_offset = further stretch.from more;
+        to_offset = before_end stretch.from more stretch.offsets less;
+        of = record { depth = depth; from_depth = shallow; to_depth = deep; at = at };
+      }))
+      exact.from;
+  no_less = exact.no_less;
+}
+  where
+    before_end : (from : ℤ) (more count : ℕ) → more < count → (from +ℤ pos more) <ℤ (from +ℤ pos count)
+    before_end from more count less = omega (arith, ints)
+
+-- the greatest key of a stretch, where some counts that are done with weigh no less for each line than it scores
+pub greatest_risen : (page : LivingPage) (least before word : ℕ) (stretch : Stretch) → IsOfPage page.height stretch → IsRisen (IsKeyIn page least stretch) before word
+    → ((more k : ℕ) → more < stretch.offsets → (part : List ℕ) × HasColumn page stretch more k part × AreBeaten page least stretch part word)
+    → IsGreaterKey (IsKeyIn page least stretch) before word
+greatest_risen page least before word stretch of_page risen parts = record {
+  from = risen.from;
+  no_less = risen.no_less;
+  greatest = λ key is.
+      let there = behind_first stretch.from is.offset stretch.offsets is.from_offset is.to_offset in
+      let depth : ℕ = is.of.depth in
+      let at : IsKeyAt page least stretch.slope (stretch.from +ℤ pos there.0) depth key =
+      subst (λ (o : ℤ). IsKeyAt page least stretch.slope o depth key) there.2 is.of.at in
+      let held = parts there.0 at.in_column there.1 in
+      let less = held.2 there.0 depth there.1 is.of.from_depth is.of.to_depth at.score at.in_column at.scored at.enough
+      (score_low page stretch there.0 depth at.score at.in_column held.0 of_page.slope_in of_page.low there.1 is.of.to_depth held.1 at.scored) in
+      (less.0, omega (arith, less.1, at.has_key));
+}

@@ -85,7 +85,8 @@ weight_by_place slope offset depth r in_slopes above =
     (no_more (height_at slope offset x) r.y1 ∙ gap_is r.y1 (first_place offset) (rise slope x) offset (place_of slope r) 0 little.0 little.1 above (omega arith) (omega arith))
     (gap_is r.y1 (first_place offset) (rise slope x) offset (place_of slope r) depth little.0 little.1 above (omega arith) (omega arith)))
 
-far_weight : (gap : ℕ) → 5 ≤ gap → weight_at gap ≡ 0
+-- a box that is far off weighs nothing
+pub far_weight : (gap : ℕ) → 5 ≤ gap → weight_at gap ≡ 0
 far_weight gap far = let squares : 5 * 5 ≤ gap * gap = mul-le-mul far far in omega arith
 
 -- nothing before the first place weighs anything, and nothing behind the last

@@ -251,12 +251,12 @@ to_times f w zero = omega arith
 to_times f w (suc n) =
     omega (arith, to_suc (λ k. w * f k) n, ap (λ (s : ℕ). w * s) (to_suc f n), to_times f w n)
 
-small_sum : (f : ℕ → ℕ) (n : ℕ) → ((k : ℕ) → f k ≤ 54066375) → sum_to f n ≤ n * 54066375
+small_sum : (f : ℕ → ℕ) (n : ℕ) → ((k : ℕ) → f k ≤ 119601375) → sum_to f n ≤ n * 119601375
 small_sum f zero each = omega (arith, to_none f)
 small_sum f (suc n) each = omega (arith, to_suc f n, each n, small_sum f n each)
 
 -- small counts weigh little for the line of no depth
-pub bell_small : (counts : List ℕ) (place : ℕ) → ((k : ℕ) → get_or counts k 0 ≤ 2162655) → weighed counts place 0 ≤ 1000000000
+pub bell_small : (counts : List ℕ) (place : ℕ) → ((k : ℕ) → get_or counts k 0 ≤ 4784055) → weighed counts place 0 ≤ 2000000000
 bell_small counts place small =
     omega (
       arith,

@@ -37,6 +37,17 @@ pub record IsGreaterKey (admits : ℕ → Type 0) (before word : ℕ) : Type 0 w
   pub no_less : before ≤ word
   pub greatest : (key : ℕ) → admits key → (0 < word) × (key ≤ word)
 
+-- the word is the one before or one of these keys, and no less than the one before
+pub record IsRisen (admits : ℕ → Type 0) (before word : ℕ) : Type 0 where
+  pub from : (word ≡ before) ⊎ admits word
+  pub no_less : before ≤ word
+
+-- the line so many offsets behind the first of a stretch has no greater key, where it scores enough and at most its top
+abbrev pub IsBeaten : LivingPage → ℕ → Stretch → ℕ → ℕ → ℕ → ℕ → Type 0
+IsBeaten page least stretch more depth top key = (score in_column : ℕ)
+    → IsScore stretch.slope (stretch.from +ℤ pos more) depth page.boxes page.gutters page.alive score in_column
+    → least ≤ score → score ≤ top → (0 < key) × (line_key score stretch.slope (stretch.from +ℤ pos more) depth ≤ key)
+
 -- none of these keys is greater than the bound, which is less than the one before or one of them
 pub record IsSharper (admits : ℕ → Type 0) (before bound : ℕ) : Type 0 where
   pub over : (key : ℕ) → admits key → key ≤ bound

@@ -1,12 +1,13 @@
 -- The counts of the parts into which gutters that all lines of a stretch cross divide a page, and what no line scores more than.
-use Rattle.std.specs.Prelude.{◌≡◌, ℕ, ◌+◌, ◌*◌, ◌<◌, ◌≤◌, ◌==◌, max, cond, Bool, false, IsTrue, pos, ◌+ℤ◌, List, [], map, length, slice_index, slice_index_or}
+use Rattle.std.specs.Prelude.{◌≡◌, ℕ, ◌+◌, ◌*◌, ◌<◌, ◌≤◌, ◌==◌, max, cond, Bool, false, IsTrue, pos, ◌+ℤ◌, List, map, length, slice_index, slice_index_or}
 use Rattle.std.specs.List.{sum_by, range_with_len}
 use Rattle.layout_geom.specs.declared.rect.Rect.{Rect}
 use Rattle.line_quality.specs.Points.{weight_at}
-use Rattle.line_quality.specs.Scores.{IsScore}
+use Rattle.line_quality.specs.declared.limits.TheConstants.{MAX_DEPTH}
 use Rattle.line_counts.specs.declared.limits.TheConstants.{REACH, BATCH, MAX_TOPS, MAX_PLACES, MAX_PART_COUNT}
 use Rattle.line_counts.specs.declared.stretch.Stretch.{Stretch}
 use Rattle.line_counts.specs.Fits.{column_of_segment, count_of, first_place, apart, weight_behind}
+use Rattle.line_counts.specs.Stretches.{IsBeaten}
 use Rattle.line_counts.specs.Table.{LivingPage}
 
 -- each line of the stretch has a column that begins with the segment
@@ -57,20 +58,11 @@ pub record AreBells (counts bells : List ℕ) : Type 0 where
   pub long : length bells ≡ MAX_TOPS
   pub value : (place : ℕ) → place < MAX_TOPS → slice_index bells place ≡ weighed counts place 0
 
--- the counts and the bells of a number of parts, with room for more
-pub record AreParts (room number : ℕ) (all_counts all_bells : List (List ℕ)) : Type 0 where
-  pub few : number ≤ room
-  pub counts : (part : ℕ) → part < room → ArePartCounts (slice_index_or all_counts part [])
-  pub bells : (part : ℕ) → part < number → AreBells (slice_index_or all_counts part []) (slice_index_or all_bells part [])
+-- they weigh no more for any line
+abbrev pub WeighAtMost : List ℕ → ℕ → Type 0
+WeighAtMost counts most = (more depth : ℕ) → more < BATCH → depth ≤ MAX_DEPTH → weighed counts more depth ≤ most
 
--- some of the first parts has no less than a column of a line of the stretch, whatever the line and the column
-abbrev pub HaveColumns : LivingPage → Stretch → ℕ → List (List ℕ) → Type 0
-HaveColumns page stretch number counts = (more in_column : ℕ) → more < stretch.offsets
-    → (part : ℕ) × (part < number) × HasColumn page stretch more in_column (slice_index_or counts part [])
-
--- no line of the depth scores more than the top of its offset
-pub record AreTops (page : LivingPage) (stretch : Stretch) (depth : ℕ) (tops : List ℕ) : Type 0 where
-  pub long : length tops ≡ BATCH
-  pub over : (more score in_column : ℕ) → more < stretch.offsets
-      → IsScore stretch.slope (stretch.from +ℤ pos more) depth page.boxes page.gutters page.alive score in_column
-      → score ≤ slice_index tops more
+-- no line of the stretch has a greater key, of those that score enough, and at most what the counts weigh for them
+abbrev pub AreBeaten : LivingPage → ℕ → Stretch → List ℕ → ℕ → Type 0
+AreBeaten page least stretch counts key = (more depth : ℕ) → more < stretch.offsets → stretch.shallowest ≤ depth → depth ≤ stretch.deepest
+    → IsBeaten page least stretch more depth (weighed counts more depth) key

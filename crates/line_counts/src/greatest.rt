@@ -1,32 +1,19 @@
 //! The greatest key of a stretch of the grid.
-ghost use Rattle.std.specs.Prelude.{◌≡◌, ◌+◌, ◌*◌, ◌/◌, ◌^◌, ◌<◌, ◌≤◌, pos, ◌+ℤ◌, ◌≤ℤ◌, ℕ, [], max, length, slice_index, slice_index_or, IsFalse};
+ghost use Rattle.std.specs.Prelude.{◌≡◌, ◌+◌, ◌/◌, ◌^◌, ◌<◌, ◌≤◌, pos, ◌≤ℤ◌, ℕ, max, length, slice_index, IsFalse};
 ghost use Rattle.box_search.specs.Search.{IsGreatestKey};
 ghost use Rattle.line_quality.specs.Points.{IsSlope, IsOffset, IsDepth};
 ghost use Rattle.line_quality.specs.Keys;
-ghost use Rattle.line_quality.specs.Scores.{IsScore};
-ghost use Rattle.line_counts.specs.Stretches.{IsKeyAt, IsKeyOf, IsKeyIn, IsOfPage, IsGreaterKey, IsSharper};
-ghost use Rattle.line_counts.specs.Tops.{AreCuts, ArePartCounts, AreBells, AreParts, AreTops, HaveColumns, sum_to, weighed};
+ghost use Rattle.line_counts.specs.Stretches.{IsKeyAt, IsKeyIn, IsOfPage, IsGreaterKey, IsRisen, IsBeaten};
+ghost use Rattle.line_counts.specs.Tops.{ArePartCounts, AreBells, AreBeaten, WeighAtMost, weighed};
 
 use crate::counts::Counts;
-use crate::limits::{BATCH, MAX_PART_COUNT, MAX_PLACES, MAX_SEGMENTS, MAX_TABLE_BOXES, MAX_TOPS};
-use crate::parts::{Parts, bells};
+use crate::limits::{BATCH, MAX_PLACES, MAX_TABLE_BOXES};
+use crate::parts::bells;
+use crate::pieces::{offset_of, part_of};
+use crate::rough::{on_the_line, part_most};
 use crate::stretch::Stretch;
-use crate::tops::tops;
-use layout_geom::{Rect, Rects};
-use layout_limits::MAX_SIDE;
-use line_quality::{
-    LEAST_OFFSET, MAX_DEPTH, MAX_SCORE, MAX_WEIGHT, OFFSET_MARGIN, height_at, line_key, middle,
-};
-
-/// The offset of a stretch that comes so many behind the first.
-fn offset_of(stretch: &Stretch, more: u16) -> i16
-    requires more { more < stretch.now.offsets }
-    requires low { LEAST_OFFSET ≤ℤ stretch.now.from }
-    requires high { (stretch.now.from +ℤ pos stretch.now.offsets) ≤ℤ pos (MAX_SIDE + OFFSET_MARGIN + 1) }
-    ensures { result ≡ stretch.now.from +ℤ pos more }
-{
-    (stretch.from as i32 + more as i32) as i16
-}
+use crate::tops::line_sums;
+use line_quality::{LEAST_OFFSET, MAX_DEPTH, MAX_SCORE, OFFSET_MARGIN, line_key};
 
 /// The score that a line needs so that its key is greater than the best so far, and that it has to have.
 fn needed(least: u32, best: u64) -> u64
@@ -43,58 +30,6 @@ pub(crate) fn greatest_of_first(numbers: &[u32], count: usize) -> u32
     let mut most = 0;
     for place in 0..count {
         most = numbers[place].max(most);
-    }
-    most
-}
-
-/// The sum of counts.
-fn total(counts: &[u32]) -> u32
-    requires { ArePartCounts counts.now }
-    ensures value { result ≡ sum_to (λ place. slice_index counts.now place) MAX_PLACES }
-    ensures small { result ≤ MAX_PLACES * MAX_PART_COUNT }
-{
-    let mut total = 0;
-    for place in 0..MAX_PLACES {
-        total += counts[place];
-    }
-    total
-}
-
-/// What the counts of a part weigh at most for a line: no more than two bells, and than if each box stood on the line.
-fn part_most(counts: &[u32], bells: &[u32]) -> u32
-    requires counts { ArePartCounts counts.now }
-    requires bells { AreBells counts.now bells.now }
-    ensures { (more depth : ℕ) → more < BATCH → depth ≤ MAX_DEPTH → weighed counts.now more depth ≤ result }
-{
-    let bell = greatest_of_first(bells, MAX_TOPS);
-    bell.saturating_mul(2)
-        .min(total(counts).saturating_mul(MAX_WEIGHT))
-}
-
-/// What the counts of a part weigh at most for a line. Where that is less than the least anyhow, their bells are not asked for.
-fn sums_most(counts: &[u32], least: u32) -> u32
-    requires { ArePartCounts counts.now }
-    ensures { (more depth : ℕ) → more < BATCH → depth ≤ MAX_DEPTH → weighed counts.now more depth ≤ result }
-{
-    let all = total(counts).saturating_mul(MAX_WEIGHT);
-    if all < least {
-        return all;
-    }
-    part_most(counts, &bells(counts))
-}
-
-/// What the counts of some part weigh at most for a line.
-fn most<const N: usize>(parts: &Parts<N>) -> u32
-    requires little_room { N ≤ MAX_SEGMENTS }
-    requires parts { AreParts N parts.now.number parts.now.counts parts.now.bells }
-    ensures { (part more depth : ℕ) → part < parts.now.number → more < BATCH → depth ≤ MAX_DEPTH
-        → weighed (slice_index_or parts.now.counts part []) more depth ≤ result }
-{
-    let mut most = 0;
-    for part in 0..parts.number {
-        let counts = &parts.counts[part];
-        let bells = &parts.bells[part];
-        most = part_most(counts, bells).max(most);
     }
     most
 }
@@ -125,76 +60,6 @@ fn may_beat(top: u32, slope: i8, offset: i16, depth: u8, least: u32, best: u64) 
     top as u64 >= needed(least, best) && line_key(top.min(MAX_SCORE), slope, offset, depth) > best
 }
 
-/// How many of the segments another part begins with. It only chooses how much room a list of parts has.
-fn count(cuts: &[bool; MAX_SEGMENTS]) -> usize
-    ensures { result ≤ MAX_SEGMENTS }
-{
-    cuts.iter().filter(|cut| **cut).count()
-}
-
-/// The lines of one depth of a stretch.
-fn row_of(stretch: &Stretch, depth: u8) -> Stretch
-    ensures { result ≡ record stretch.now { shallowest = depth; deepest = depth } }
-{
-    Stretch {
-        shallowest: depth,
-        deepest: depth,
-        ..*stretch
-    }
-}
-
-/// How many offsets from one on have lines that all cross a gutter, or none of which does: at least 1, and at most `BATCH`.
-fn alike_at(slope: i8, offset: i16, gutter: &Rect) -> u16
-    requires slope { IsSlope slope }
-    requires offset { IsOffset offset }
-    ensures some { 0 < result }
-    ensures few { result ≤ BATCH }
-{
-    let height = height_at(slope, offset, middle(gutter));
-    let (top, foot) = (gutter.y0() as i32 + 1, gutter.y1() as i32 + 1);
-    let end = if height < top {
-        top
-    } else if height < foot {
-        foot
-    } else {
-        height + BATCH as i32
-    };
-    end.abs_diff(height).max(1).min(BATCH as u32) as u16
-}
-
-/// How many offsets from one on have lines that cross the same gutters: at least 1, and at most `BATCH`.
-fn alike(slope: i8, offset: i16, gutters: &Rects) -> u16
-    requires slope { IsSlope slope }
-    requires offset { IsOffset offset }
-    ensures some { 0 < result }
-    ensures few { result ≤ BATCH }
-{
-    let mut offsets = BATCH;
-    for gutter in gutters.as_slice() {
-        offsets = alike_at(slope, offset, gutter).min(offsets);
-    }
-    offsets
-}
-
-/// A part of a stretch: the offsets from one on whose lines cross the same gutters, so that its parts are their columns.
-fn part_of(stretch: &Stretch, done: u16, gutters: &Rects) -> Stretch
-    requires slope { IsSlope stretch.now.slope }
-    requires more { done < stretch.now.offsets }
-    requires low { LEAST_OFFSET ≤ℤ stretch.now.from }
-    requires high { (stretch.now.from +ℤ pos stretch.now.offsets) ≤ℤ pos (MAX_SIDE + OFFSET_MARGIN + 1) }
-    ensures part { result ≡ record stretch.now { from = stretch.now.from +ℤ pos done; offsets = result.offsets } }
-    ensures some { 0 < result.offsets }
-    ensures few { result.offsets ≤ BATCH }
-    ensures within { done + result.offsets ≤ stretch.now.offsets }
-{
-    let from = offset_of(stretch, done);
-    Stretch {
-        from,
-        offsets: (stretch.offsets - done).min(alike(stretch.slope, from, gutters)),
-        ..*stretch
-    }
-}
-
 impl Counts {
     /// The key of a line, or 0 where it scores less than the least.
     fn key_at(&self, slope: i8, offset: i16, depth: u8, least: u32) -> u64
@@ -211,111 +76,123 @@ impl Counts {
         line_key(score, slope, offset, depth)
     }
 
-    /// The best key so far, or the greater one of a line of a row that scores at most its top.
-    fn better(&self, row: &Stretch, more: u16, top: u32, least: u32, before: u64) -> u64
-        requires of_page { IsOfPage self.now.height row.now }
-        requires row { row.now.shallowest ≡ row.now.deepest }
-        requires more { more < row.now.offsets }
+    /// The best key so far, or the greater one of a line of a stretch, where that scores at most its top.
+    fn better(
+        &self,
+        stretch: &Stretch,
+        more: u16,
+        depth: u8,
+        top: u32,
+        least: u32,
+        before: u64,
+    ) -> u64
+        requires of_page { IsOfPage self.now.height stretch.now }
+        requires more { more < stretch.now.offsets }
+        requires shallow { stretch.now.shallowest ≤ depth }
+        requires deep { depth ≤ stretch.now.deepest }
         requires alive { length self.now.alive ≤ MAX_TABLE_BOXES }
-        requires over { (score in_column : ℕ) → IsScore row.now.slope (row.now.from +ℤ pos more) row.now.deepest
-            self.now.boxes self.now.gutters self.now.alive score in_column → score ≤ top }
-        ensures { IsGreaterKey (IsKeyOf self.now least row.now.slope (row.now.from +ℤ pos more)
-            row.now.shallowest row.now.deepest) before result }
+        ensures risen { IsRisen (IsKeyIn self.now least stretch.now) before result }
+        ensures beaten { IsBeaten self.now least stretch.now more depth top result }
     {
-        let offset = offset_of(row, more);
-        if !may_beat(top, row.slope, offset, row.deepest, least, before) {
+        let offset = offset_of(stretch, more);
+        if !may_beat(top, stretch.slope, offset, depth, least, before) {
             return before;
         }
-        self.key_at(row.slope, offset, row.deepest, least)
-            .max(before)
+        self.key_at(stretch.slope, offset, depth, least).max(before)
     }
 
-    /// The best key so far, or a greater one of the lines of a row. The likeliest one comes first, since the others are then
-    /// mostly passed over.
-    fn greatest_of(&self, row: &Stretch, tops: &[u32], least: u32, before: u64) -> u64
-        requires of_page { IsOfPage self.now.height row.now }
-        requires some { 0 < row.now.offsets }
-        requires few { row.now.offsets ≤ BATCH }
-        requires row { row.now.shallowest ≡ row.now.deepest }
+    /// The best key so far, or a greater one of the lines of one depth of a stretch that score at most their tops. The likeliest one
+    /// comes first, since the others are then mostly passed over.
+    fn greatest_of(
+        &self,
+        stretch: &Stretch,
+        depth: u8,
+        tops: &[u32],
+        least: u32,
+        before: u64,
+    ) -> u64
+        requires of_page { IsOfPage self.now.height stretch.now }
+        requires some { 0 < stretch.now.offsets }
+        requires long { stretch.now.offsets ≤ length tops.now }
+        requires shallow { stretch.now.shallowest ≤ depth }
+        requires deep { depth ≤ stretch.now.deepest }
         requires alive { length self.now.alive ≤ MAX_TABLE_BOXES }
-        requires tops { AreTops self.now row.now row.now.deepest tops.now }
-        ensures { IsGreaterKey (IsKeyIn self.now least row.now) before result }
+        ensures risen { IsRisen (IsKeyIn self.now least stretch.now) before result }
+        ensures beaten { (more : ℕ) → more < stretch.now.offsets
+            → IsBeaten self.now least stretch.now more depth (slice_index tops.now more) result }
     {
-        let most = greatest_of_first(tops, row.offsets as usize);
-        if !may_beat(most, row.slope, row.from, row.deepest, least, before) {
+        let most = greatest_of_first(tops, stretch.offsets as usize);
+        if !may_beat(most, stretch.slope, stretch.from, depth, least, before) {
             return before;
         }
-        let first = likeliest(tops, row.offsets);
-        let mut best = self.better(row, first, tops[first as usize], least, before);
+        let first = likeliest(tops, stretch.offsets);
+        let mut best = self.better(stretch, first, depth, tops[first as usize], least, before);
         let enough = needed(least, best);
-        for more in 0..row.offsets {
+        for more in 0..stretch.offsets {
             let top = tops[more as usize];
             if top as u64 >= enough {
-                best = self.better(row, more, top, least, best);
+                best = self.better(stretch, more, depth, top, least, best);
             }
         }
         best
     }
 
-    /// The best key so far, or a greater one of the lines of one depth of a stretch. The counts of no part weigh more than the most.
-    fn greatest_at<const N: usize>(
+    /// The best key so far, or a greater one of the lines of one depth of a stretch that score at most what the counts of a part weigh
+    /// for them. The counts weigh no more than the most.
+    fn greatest_at(
         &self,
-        parts: &Parts<N>,
+        counts: &[u32],
+        bells: &[u32],
         stretch: &Stretch,
         depth: u8,
         most: u32,
         least: u32,
         before: u64,
     ) -> u64
-        requires little_room { N ≤ MAX_SEGMENTS }
         requires of_page { IsOfPage self.now.height stretch.now }
         requires some { 0 < stretch.now.offsets }
         requires few { stretch.now.offsets ≤ BATCH }
-        requires alive { length self.now.alive ≤ MAX_TABLE_BOXES }
+        requires shallow { stretch.now.shallowest ≤ depth }
         requires deep { depth ≤ stretch.now.deepest }
-        requires parts { AreParts N parts.now.number parts.now.counts parts.now.bells }
-        requires columns { HaveColumns self.now stretch.now parts.now.number parts.now.counts }
-        requires over { (part more depth : ℕ) → part < parts.now.number → more < BATCH → depth ≤ MAX_DEPTH
-            → weighed (slice_index_or parts.now.counts part []) more depth ≤ most }
-        ensures { IsGreaterKey (IsKeyIn self.now least (record stretch.now { shallowest = depth; deepest = depth })) before result }
+        requires alive { length self.now.alive ≤ MAX_TABLE_BOXES }
+        requires counts { ArePartCounts counts.now }
+        requires bells { AreBells counts.now bells.now }
+        requires over { WeighAtMost counts.now most }
+        ensures risen { IsRisen (IsKeyIn self.now least stretch.now) before result }
+        ensures beaten { (more : ℕ) → more < stretch.now.offsets
+            → IsBeaten self.now least stretch.now more depth (weighed counts.now more depth) result }
     {
         if !may_beat(most, stretch.slope, stretch.from, depth, least, before) {
             return before;
         }
-        let tops = tops(parts, depth, needed(least, before));
-        self.greatest_of(&row_of(stretch, depth), &tops, least, before)
+        let sums = line_sums(counts, bells, depth, needed(least, before));
+        self.greatest_of(stretch, depth, &sums, least, before)
     }
 
-    /// The best key so far, or a greater one of the lines of a part of a stretch, by at most so many parts of the page. The least
-    /// depth comes first: no deeper line that scores as much has a greater key.
-    fn greatest_by<const N: usize>(
-        &self,
-        stretch: &Stretch,
-        cuts: &[bool; MAX_SEGMENTS],
-        least: u32,
-        before: u64,
-    ) -> u64
-        requires room { 0 < N }
-        requires little_room { N ≤ MAX_SEGMENTS }
+    /// The best key so far, or a greater one of the lines of a stretch that score at most what the counts of a part weigh for them. The
+    /// least depth comes first: no deeper line that scores as much has a greater key.
+    fn greatest_by(&self, counts: &[u32], stretch: &Stretch, least: u32, before: u64) -> u64
         requires of_page { IsOfPage self.now.height stretch.now }
-        requires cuts { AreCuts self.now.gutters stretch.now cuts.now }
         requires some { 0 < stretch.now.offsets }
         requires few { stretch.now.offsets ≤ BATCH }
-        ensures { IsGreaterKey (IsKeyIn self.now least stretch.now) before result }
+        requires alive { length self.now.alive ≤ MAX_TABLE_BOXES }
+        requires counts { ArePartCounts counts.now }
+        ensures risen { IsRisen (IsKeyIn self.now least stretch.now) before result }
+        ensures beaten { AreBeaten self.now least stretch.now counts.now result }
     {
-        let parts = self.parts::<N>(stretch, cuts);
-        let most = most(&parts);
-        if (most as u64) < needed(least, before) {
+        if (on_the_line(counts) as u64) < needed(least, before) {
             return before;
         }
+        let bells = bells(counts);
+        let most = part_most(counts, &bells);
         let mut best = before;
         for depth in stretch.shallowest..stretch.deepest + 1 {
-            best = self.greatest_at(&parts, stretch, depth, most, least, best);
+            best = self.greatest_at(counts, &bells, stretch, depth, most, least, best);
         }
         best
     }
 
-    /// The best key so far, or a greater one of the lines of a part of a stretch.
+    /// The best key so far, or a greater one of the lines of a piece of a stretch, one part after the other.
     fn greatest_in(&self, stretch: &Stretch, least: u32, before: u64) -> u64
         requires of_page { IsOfPage self.now.height stretch.now }
         requires some { 0 < stretch.now.offsets }
@@ -323,69 +200,16 @@ impl Counts {
         ensures { IsGreaterKey (IsKeyIn self.now least stretch.now) before result }
     {
         let cuts = self.cuts(stretch);
-        match count(&cuts) {
-            0 => self.greatest_by::<1>(stretch, &cuts, least, before),
-            1..4 => self.greatest_by::<4>(stretch, &cuts, least, before),
-            4..12 => self.greatest_by::<12>(stretch, &cuts, least, before),
-            _ => self.greatest_by::<MAX_SEGMENTS>(stretch, &cuts, least, before),
-        }
-    }
-
-    /// What the counts of some part weigh at most for a line of a stretch, one part after the other.
-    fn most_of(&self, stretch: &Stretch, least: u32) -> u32
-        requires of_page { IsOfPage self.now.height stretch.now }
-        requires some { 0 < stretch.now.offsets }
-        requires few { stretch.now.offsets ≤ BATCH }
-        ensures alive { length self.now.alive ≤ MAX_TABLE_BOXES }
-        ensures over { (more depth score in_column : ℕ) → more < stretch.now.offsets → depth ≤ stretch.now.deepest
-            → IsScore stretch.now.slope (stretch.now.from +ℤ pos more) depth self.now.boxes self.now.gutters self.now.alive score in_column
-            → score ≤ result }
-    {
-        let cuts = self.cuts(stretch);
-        let mut most = 0;
+        let mut best = before;
         let mut sums = [0; MAX_PLACES];
         for of_segment in 0..self.gutters.len() + 1 {
             if cuts[of_segment] {
-                most = sums_most(&sums, least).max(most);
+                best = self.greatest_by(&sums, stretch, least, best);
                 sums = [0; MAX_PLACES];
             }
             self.add_counts(sums.as_mut_slice(), stretch, of_segment);
         }
-        sums_most(&sums, least).max(most)
-    }
-
-    /// A bound of the lines of a stretch that score at least so much, by what counts weigh at most.
-    fn rough(&self, stretch: &Stretch, least: u32) -> u64
-        requires of_page { IsOfPage self.now.height stretch.now }
-        requires some { 0 < stretch.now.offsets }
-        requires few { stretch.now.offsets ≤ BATCH }
-        ensures { (key : ℕ) → IsKeyIn self.now least stretch.now key → key ≤ result }
-    {
-        let score = self.most_of(stretch, least);
-        if score < least {
-            return 0;
-        }
-        line_key(
-            score.min(MAX_SCORE),
-            stretch.slope,
-            stretch.from,
-            stretch.shallowest,
-        )
-    }
-
-    /// A bound of the lines of a stretch that score at least so much: a rough one where that is less than the one before, and
-    /// else their greatest key.
-    pub(crate) fn sharper(&self, stretch: &Stretch, least: u32, before: u64) -> u64
-        requires of_page { IsOfPage self.now.height stretch.now }
-        requires some { 0 < stretch.now.offsets }
-        requires few { stretch.now.offsets ≤ BATCH }
-        ensures { IsSharper (IsKeyIn self.now least stretch.now) before result }
-    {
-        let rough = self.rough(stretch, least);
-        if rough < before {
-            return rough;
-        }
-        self.greatest(stretch, least)
+        self.greatest_by(&sums, stretch, least, best)
     }
 
     /// The greatest key of the lines of a stretch whose score among the living boxes is at least so much, or 0 where

@@ -5,7 +5,7 @@ use line_quality::{MAX_DEPTH, MAX_SLOPE, OFFSET_MARGIN};
 pub(crate) const SLOPES: usize = 2 * MAX_SLOPE as usize + 1;
 
 /// The most gutters of a page with a table: each takes as much memory as all rows of a page with none.
-pub const MAX_TABLE_GUTTERS: usize = 32;
+pub const MAX_TABLE_GUTTERS: usize = 72;
 
 /// The most segments between so many gutters.
 pub(crate) const MAX_SEGMENTS: usize = MAX_TABLE_GUTTERS + 1;
@@ -14,7 +14,7 @@ pub(crate) const MAX_SEGMENTS: usize = MAX_TABLE_GUTTERS + 1;
 pub const MAX_TABLE_BOXES: usize = 60_000;
 
 /// The most bytes that a table of counts is to take.
-pub const MAX_TABLE_BYTES: usize = 16_000_000;
+pub const MAX_TABLE_BYTES: usize = 48_000_000;
 
 /// How many rows a foot may be off a line, and still weigh something.
 pub(crate) const REACH: u16 = 4;

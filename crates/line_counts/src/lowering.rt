@@ -21,7 +21,7 @@ fn misses(span: Span, from: i16, more: u8) -> bool
 }
 
 /// The key of a block and a slope after the members went that stand in the spans: the lesser of the one before and the plain key, or
-/// the one before where no member weighs anything.
+/// the one before where no member weighs anything or the plain key is no less.
 fn lower_key(
     counts: &Counts,
     block: &Block,
@@ -39,7 +39,11 @@ fn lower_key(
     if misses(spans[number], block.from, more_rows(block.offsets, deepest)) {
         return key;
     }
-    key.min(counts.plain_key(slope(number), block.from, block.offsets, least, deepest))
+    let slope = slope(number);
+    if counts.plain_reaches(key, slope, block.from, block.offsets, deepest) {
+        return key;
+    }
+    key.min(counts.plain_key(slope, block.from, block.offsets, least, deepest))
 }
 
 /// The keys of a block after the members went that stand in the spans of all slopes.

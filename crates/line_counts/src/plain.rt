@@ -1,7 +1,8 @@
 //! Plain keys of the lines of one slope and neighbouring offsets, by counts alone.
-ghost use Rattle.std.specs.Prelude.{◌≡◌, ◌+◌, ◌*◌, ◌<◌, ◌≤◌, pos, ◌+ℤ◌, ◌≤ℤ◌, length, slice_get};
+ghost use Rattle.std.specs.Prelude.{◌≡◌, ◌+◌, ◌*◌, ◌<◌, ◌≤◌, pos, ◌+ℤ◌, ◌≤ℤ◌, length, slice_get, IsTrue};
 ghost use Rattle.std.specs.List.{sum_by};
 ghost use Rattle.line_quality.specs.Points.{IsSlope};
+ghost use Rattle.line_counts.specs.Plain;
 ghost use Rattle.line_counts.specs.Plain.{plain_weight};
 ghost use Rattle.line_counts.specs.Blocks;
 ghost use Rattle.line_counts.specs.Blocks.{IsKeyBound, lines_of};
@@ -46,18 +47,23 @@ impl Counts {
             + 25 * inside
     }
 
-    /// What all boxes weigh at most together for them.
-    fn plain_score(&self, slope: i8, from: i16, more: u8) -> u32
+    /// What all boxes weigh at most together for them, or what those of the first segments do where that is enough.
+    fn plain_score(&self, slope: i8, from: i16, more: u8, enough: u64) -> u32
         requires slope { IsSlope slope }
         requires low { LEAST_OFFSET ≤ℤ from }
         requires high { (from +ℤ pos more) ≤ℤ pos (self.now.height + OFFSET_MARGIN + MAX_DEPTH) }
-        ensures value { result ≡ sum_by
+        ensures value { result < enough → result ≡ sum_by
+            (λ position. plain_weight (lines_of slope from 1 more) (slice_get self.now.boxes position)) self.now.alive }
+        ensures within { result ≤ sum_by
             (λ position. plain_weight (lines_of slope from 1 more) (slice_get self.now.boxes position)) self.now.alive }
         ensures small { result ≤ MAX_SCORE }
     {
         let mut total = 0;
         for of_segment in 0..self.gutters.len() + 1 {
             total += self.plain_segment(slope, from, more, of_segment);
+            if total as u64 >= enough {
+                return total;
+            }
         }
         total
     }
@@ -80,10 +86,32 @@ impl Counts {
         requires deep { deepest ≤ MAX_DEPTH }
         ensures { IsKeyBound self.now least (lines_of slope from offsets deepest) result }
     {
-        let score = self.plain_score(slope, from, more_rows(offsets, deepest));
+        let score = self.plain_score(slope, from, more_rows(offsets, deepest), u64::MAX);
         if score < least {
             return 0;
         }
         line_key(score, slope, from, 0)
+    }
+    /// Whether the plain key of the lines of a slope and some offsets is no less than a key. The first segments mostly tell.
+    pub(crate) fn plain_reaches(
+        &self,
+        key: u64,
+        slope: i8,
+        from: i16,
+        offsets: u16,
+        deepest: u8,
+    ) -> bool
+        requires page { self.now.height ≤ MAX_SIDE }
+        requires slope { IsSlope slope }
+        requires low { LEAST_OFFSET ≤ℤ from }
+        requires high { (from +ℤ pos offsets) ≤ℤ pos (self.now.height + OFFSET_MARGIN + 1) }
+        requires some { 0 < offsets }
+        requires few { offsets ≤ MAX_BLOCK }
+        requires deep { deepest ≤ MAX_DEPTH }
+        ensures { IsTrue result → key ≤ Plain.plain_key self.now.boxes self.now.alive (lines_of slope from offsets deepest) }
+    {
+        let enough = key / (1 << 29) + 1;
+        let score = self.plain_score(slope, from, more_rows(offsets, deepest), enough);
+        score as u64 >= enough
     }
 }

@@ -157,16 +157,28 @@ fn parts_of_blocks_are_scored_by_their_own_lines(rt: HostRuntime) -> Result<(), 
     Ok(())
 }
 
+/// So many gutters, all at the same place.
+fn gutters(alloc: Global, count: u32) -> Result<Rects, Fail> {
+    let mut gutters = Rects::new(alloc);
+    for _ in 0..count {
+        gutters.push(Rect::new(36, 0, 48, 41).ok_or("no rectangle")?)?;
+    }
+    Ok(gutters)
+}
+
 #[test]
 fn pages_with_few_gutters_get_a_table(rt: HostRuntime) -> Result<(), Fail> {
-    let gutters = rects(rt.alloc(), &GUTTERS)?;
-    assert!(rt; fits_table(8192, &gutters));
-    let many = rects(rt.alloc(), &[(36, 0, 48, 41); 14])?;
-    assert!(rt; fits_table(7500, &many));
-    assert!(rt; !fits_table(8192, &many));
-    let most = rects(rt.alloc(), &[(36, 0, 48, 41); 32])?;
-    assert!(rt; fits_table(3000, &most));
-    let too_many = rects(rt.alloc(), &[(36, 0, 48, 41); 33])?;
-    assert!(rt; !fits_table(100, &too_many));
+    let cases = [
+        (2, 8192, true),
+        (40, 8192, true),
+        (41, 8192, false),
+        (72, 4385, true),
+        (72, 4386, false),
+        (73, 100, false),
+    ];
+    for (count, height, fits) in cases {
+        let found = fits_table(height, &gutters(rt.alloc(), count)?);
+        assert_eq!(rt; found, fits, "{count} gutters, {height} rows");
+    }
     Ok(())
 }

@@ -1,14 +1,10 @@
 //! How much lines of one depth can score at most: what the counts of a part weigh for them.
-ghost use Rattle.std.specs.Prelude.{◌≡◌, ◌+◌, ◌*◌, ◌<◌, ◌≤◌, ℕ, max, length, slice_index};
+ghost use Rattle.std.specs.Prelude.{◌≡◌, ◌+◌, ◌*◌, ◌<◌, ◌≤◌, ℕ, length, slice_index};
 ghost use Rattle.line_counts.specs.Tops;
-ghost use Rattle.line_counts.specs.Tops.{ArePartCounts, AreBells, AreParts, HaveColumns, AreTops, weighed};
-ghost use Rattle.line_counts.specs.declared.stretch.Stretch.{Stretch};
-ghost use Rattle.line_counts.specs.Stretches.{IsOfPage};
-ghost use Rattle.line_counts.specs.Table.{LivingPage};
+ghost use Rattle.line_counts.specs.Tops.{ArePartCounts, AreBells, weighed};
 
 use crate::greatest::greatest_of_first;
-use crate::limits::{BATCH, MAX_PLACES, MAX_SEGMENTS, MAX_TOPS, REACH};
-use crate::parts::Parts;
+use crate::limits::{BATCH, MAX_PLACES, MAX_TOPS, REACH};
 use line_quality::{MAX_DEPTH, MAX_WEIGHT, weight_at};
 
 /// What a box weighs less than for a line and for that of its descenders together, by how far it is behind the first place that
@@ -27,7 +23,7 @@ fn common_weight(depth: u8, behind: u8) -> u32
 fn both_bells(bells: &[u32], depth: u8) -> [u32; BATCH as usize]
     requires long { length bells.now ≡ MAX_TOPS }
     requires depth { depth ≤ MAX_DEPTH }
-    requires small { (place : ℕ) → slice_index bells.now place ≤ 1000000000 }
+    requires small { (place : ℕ) → slice_index bells.now place ≤ 2000000000 }
     ensures long { length result ≡ BATCH }
     ensures value { (more : ℕ) → more < BATCH → slice_index result more ≡ slice_index bells.now more + slice_index bells.now (more + depth) }
 {
@@ -68,7 +64,12 @@ fn first_bells(bells: &[u32]) -> [u32; BATCH as usize]
 
 /// What counts weigh at most for the lines of a depth: as much as for the lines and those of their descenders, but for what weighs
 /// something for both. Where all of them weigh less than enough anyhow, that stays in.
-fn line_sums(counts: &[u32], bells: &[u32], depth: u8, enough: u64) -> [u32; BATCH as usize]
+pub(crate) fn line_sums(
+    counts: &[u32],
+    bells: &[u32],
+    depth: u8,
+    enough: u64,
+) -> [u32; BATCH as usize]
     requires counts { ArePartCounts counts.now }
     requires bells { AreBells counts.now bells.now }
     requires depth { depth ≤ MAX_DEPTH }
@@ -91,38 +92,4 @@ fn line_sums(counts: &[u32], bells: &[u32], depth: u8, enough: u64) -> [u32; BAT
         );
     }
     sums
-}
-
-/// Raises each number of a list to that of the other list where it is greater.
-fn raise_to(each: &mut [u32], sums: &[u32])
-    requires long { length each.old ≡ length sums.now }
-    ensures long { length each.new ≡ length each.old }
-    ensures raised { (place : ℕ) → slice_index each.new place ≡ max (slice_index each.old place) (slice_index sums.now place) }
-{
-    for place in 0..each.len() {
-        each[place] = each[place].max(sums[place]);
-    }
-}
-
-/// What no line of a depth scores more than, offset by offset. It need not be sharp below enough.
-pub(crate) fn tops<const N: usize>(
-    parts: &Parts<N>,
-    depth: u8,
-    enough: u64,
-) -> [u32; BATCH as usize]
-    requires little_room { N ≤ MAX_SEGMENTS }
-    requires parts { AreParts N parts.now.number parts.now.counts parts.now.bells }
-    requires depth { depth ≤ MAX_DEPTH }
-    ensures long { length result ≡ BATCH }
-    ensures over { (page : LivingPage) (stretch : Stretch) → IsOfPage page.height stretch → stretch.offsets ≤ BATCH → depth ≤ stretch.deepest
-        → HaveColumns page stretch parts.now.number parts.now.counts → AreTops page stretch depth result }
-{
-    let mut tops = [0; BATCH as usize];
-    for part in 0..parts.number {
-        let counts = &parts.counts[part];
-        let bells = &parts.bells[part];
-        let sums = line_sums(counts, bells, depth, enough);
-        raise_to(tops.as_mut_slice(), &sums);
-    }
-    tops
 }

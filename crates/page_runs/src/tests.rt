@@ -56,20 +56,16 @@ fn has_runs(rt: &impl Abort, runs: &[Run], want: &[[u16; 2]]) {
     }
 }
 
+/// Runs of short rows; then runs over the bounds of bytes, at the width and to the width, and an empty row.
 #[test]
-fn the_runs_of_a_row(rt: HostRuntime) -> Result<(), Fail> {
+fn rows_have_their_runs(rt: HostRuntime) -> Result<(), Fail> {
     let mut page = RunPage::empty(rt.alloc());
     page.begin(5, 2)?;
     push(&mut page, &mut [0b1101_1000])?;
     push(&mut page, &mut [0b0010_0000])?;
     has_runs(&rt, page.row(0), &[[0, 2], [3, 5]]);
     has_runs(&rt, page.row(1), &[[2, 3]]);
-    Ok(())
-}
 
-/// Runs over the bounds of bytes, at the width and to the width, and an empty row.
-#[test]
-fn the_runs_of_rows_of_three_bytes(rt: HostRuntime) -> Result<(), Fail> {
     let mut page = RunPage::empty(rt.alloc());
     page.begin(20, 3)?;
     push(&mut page, &mut [0x0F, 0xF0, 0x3F])?;

@@ -1,5 +1,5 @@
 -- White bytes, comments and digits, one byte at a time: what stands at the front of some bytes, and how a machine reads it.
-use Rattle.std.proofs.Common.{◌≡◌, ℕ, ◌+◌, ◌-◌, ◌*◌, ◌<◌, ◌⊎◌, min, Bool, true, false, cond, eqb, List, [], ◌∷◌, ◌++◌, length, Option, Some, None, option_and_then, refl, sym, ap, ◌∙◌, append_assoc, inl, inr, arith}
+use Rattle.std.proofs.Common.{◌≡◌, ℕ, ◌+◌, ◌-◌, ◌*◌, ◌<◌, ◌⊎◌, min, Bool, true, false, cond, eqb, List, [], ◌∷◌, ◌++◌, length, Option, Some, None, option_and_then, refl, sym, ap, subst, ◌∙◌, append_assoc, inl, inr, arith}
 use Rattle.std.proofs.lemmas.Bool.Decides.{nat_tests}
 use Rattle.std.proofs.lemmas.List.{length-append}
 use Rattle.std.specs.List.{concat}
@@ -260,3 +260,12 @@ gap_tested gap comment n other byte e = cases (tested (is_white byte) gap n (con
         → ((is_white byte ≡ true) × (n ≡ gap)) ⊎ ((byte ≡ 35) × (n ≡ comment)) ⊎ (other ≡ Some n)
     cases (inl w) = inl w
     cases (inr w) = inner (tested (eqb byte 35) comment n other w.1)
+
+-- a comment is read one byte back from what stands behind that byte
+pub comment_back : {State : Type 0} (P : State → Type 0) (K : List ℕ → Type 0) (behind inside n : State) (byte : ℕ) (bytes : List ℕ) → (P behind → AfterBlank K bytes) → (P inside → AfterComment K bytes)
+    → cond (is_line_end byte) (Some behind) (Some inside) ≡ Some n → P n → AfterComment K (byte ∷ bytes)
+comment_back {State} P K behind inside n byte bytes blank comment e r = cases (tested (is_line_end byte) behind n (Some inside) e)
+  where
+    cases : ((is_line_end byte ≡ true) × (n ≡ behind)) ⊎ ((is_line_end byte ≡ false) × ((let o : Option State = Some inside in o) ≡ Some n)) → AfterComment K (byte ∷ bytes)
+    cases (inl w) = comment_end K byte bytes w.0 (blank (subst P w.1 r))
+    cases (inr w) = comment_more K byte bytes w.0 (comment (subst P (sym (some_is inside n w.1)) r))

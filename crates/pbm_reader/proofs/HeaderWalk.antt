@@ -1,5 +1,5 @@
 -- The header's machine reads just the headers.
-use Rattle.std.proofs.Common.{lit<, ◌≡◌, ℕ, ◌⊎◌, min, Bool, true, false, cond, eqb, List, [], ◌∷◌, ◌++◌, Option, Some, None, option_and_then, option_map, refl, sym, ap, subst, ◌∙◌, append_assoc, inl, inr, arith}
+use Rattle.std.proofs.Common.{lit<, ◌≡◌, ℕ, ◌⊎◌, min, Bool, true, false, cond, eqb, List, [], ◌∷◌, ◌++◌, Option, Some, None, option_map, refl, sym, ap, subst, ◌∙◌, append_assoc, inl, inr, arith}
 use Rattle.std.proofs.lemmas.Bool.Decides.{nat_tests}
 use Rattle.pbm_reader.specs.declared.form.Form.{Form}
 use Rattle.pbm_reader.specs.declared.form.Form.TheVariants.{Plain, Raw}
@@ -7,8 +7,8 @@ use Rattle.pbm_reader.specs.declared.state.HeaderState.{HeaderState}
 use Rattle.pbm_reader.specs.declared.state.HeaderState.TheVariants.{Magic, Kind, Named, WidthGap, WidthComment, Width, HeightGap, HeightComment, Height, Whole}
 use Rattle.pbm_reader.specs.Spelling.{is_white, is_line_end, is_digit, magic, IsWhite, IsNumber, IsHeader, IsSomeHeader, value_from}
 use Rattle.pbm_reader.specs.Header.{longer, with_digit, in_gap, next_state}
-use Rattle.pbm_reader.proofs.Machines.{run, Machine, Completes, IsRead}
-use Rattle.pbm_reader.proofs.Gaps.{AfterBlank, AfterComment, AfterGap, AfterDigits, AfterNumber, ReadsGaps, blank_here, gap_blank, gap_white, gap_comment, comment_more, comment_end, gap_of, told_from, told_value, digits_here, digits_more, number_first, run_gap, run_number, digit_not_white, digit_no_hash, gap_white_step, comment_end_step, comment_more_step, some_is, none_some, tested, gap_tested}
+use Rattle.pbm_reader.proofs.Machines.{carried_back, run, Machine, Completes, IsRead}
+use Rattle.pbm_reader.proofs.Gaps.{AfterBlank, AfterComment, AfterGap, AfterDigits, AfterNumber, ReadsGaps, blank_here, gap_blank, gap_white, gap_comment, comment_back, gap_of, told_from, told_value, digits_here, digits_more, number_first, run_gap, run_number, digit_not_white, digit_no_hash, gap_white_step, comment_end_step, comment_more_step, some_is, none_some, tested, gap_tested}
 
 -- ---- the machine
 
@@ -221,15 +221,7 @@ one_back t (WidthGap form) n byte bytes e r = cases (gap_tested (WidthGap form) 
     cases (inr (inr h)) =
         let d = digit_tested (λ w. Width form w) 0 byte n h in
         blank_here K (byte ∷ bytes) (number_first (λ w. AfterGap (HeightPart t form w)) byte bytes d.0 (subst P d.1 r))
-one_back t (WidthComment form) n byte bytes e r = cases (tested (is_line_end byte) (WidthGap form) n (Some (WidthComment form)) e)
-  where
-    P : HeaderState → Type 0
-    P s = Rest t s bytes
-
-    cases : ((is_line_end byte ≡ true) × (n ≡ WidthGap form)) ⊎ ((is_line_end byte ≡ false) × ((let o : Option HeaderState = Some (WidthComment form) in o) ≡ Some n))
-        → AfterComment (WidthPart t form) (byte ∷ bytes)
-    cases (inl w) = comment_end (WidthPart t form) byte bytes w.0 (subst P w.1 r)
-    cases (inr w) = comment_more (WidthPart t form) byte bytes w.0 (subst P (sym (some_is (WidthComment form) n w.1)) r)
+one_back t (WidthComment form) n byte bytes e r = comment_back (λ (s : HeaderState). Rest t s bytes) (WidthPart t form) (WidthGap form) (WidthComment form) n byte bytes (λ b. b) (λ c. c) e r
 one_back t (Width form width) n byte bytes e r = cases (gap_tested (HeightGap form width) (HeightComment form width) n (option_map (λ w. Width form w) (with_digit width byte)) byte e)
   where
     P : HeaderState → Type 0
@@ -262,18 +254,8 @@ one_back t (HeightGap form width) n byte bytes e r =
     cases (inr (inr h)) =
         let d = digit_tested (λ h. Height form width h) 0 byte n h in
         blank_here K (byte ∷ bytes) (number_first (λ h. Ending t form width h) byte bytes d.0 (subst P d.1 r))
-one_back t (HeightComment form width) n byte bytes e r = cases (tested (is_line_end byte) (HeightGap form width) n (Some (HeightComment form width)) e)
-  where
-    P : HeaderState → Type 0
-    P s = Rest t s bytes
-
-    K : List ℕ → Type 0
-    K = HeightPart t form width
-
-    cases : ((is_line_end byte ≡ true) × (n ≡ HeightGap form width)) ⊎ ((is_line_end byte ≡ false) × ((let o : Option HeaderState = Some (HeightComment form width) in o) ≡ Some n))
-        → AfterComment K (byte ∷ bytes)
-    cases (inl w) = comment_end K byte bytes w.0 (subst P w.1 r)
-    cases (inr w) = comment_more K byte bytes w.0 (subst P (sym (some_is (HeightComment form width) n w.1)) r)
+one_back t (HeightComment form width) n byte bytes e r =
+    comment_back (λ (s : HeaderState). Rest t s bytes) (HeightPart t form width) (HeightGap form width) (HeightComment form width) n byte bytes (λ b. b) (λ c. c) e r
 one_back t (Height form width height) n byte bytes e r = cases (tested (is_white byte) (Whole form width height) n (option_map (λ h. Height form width h) (with_digit height byte)) e)
   where
     P : HeaderState → Type 0
@@ -299,13 +281,7 @@ whole_here t s e w =
     subst (λ (k : HeaderState). Rest t k []) (sym (e ∙ is.3)) ended
 
 ends_header : (bytes : List ℕ) (s t : HeaderState) → run next_state s bytes ≡ Some t → is_whole t ≡ true → Rest t s bytes
-ends_header [] s t e w = whole_here t s (some_is s t e) w
-ends_header (byte ∷ bytes) s t e w = cases (λ n r. ends_header bytes n t r w) (next_state s byte) refl e
-  where
-    cases : ((n : HeaderState) → run next_state n bytes ≡ Some t → Rest t n bytes) → (o : Option HeaderState) → next_state s byte ≡ o
-        → option_and_then (λ n. run next_state n bytes) o ≡ Some t → Rest t s (byte ∷ bytes)
-    cases again None p q = absurd (none_some t q)
-    cases again (Some n) p q = one_back t s n byte bytes p (again n q)
+ends_header bytes s t e w = carried_back next_state t (Rest t) (λ s is. whole_here t s is w) (one_back t) bytes s e
 
 -- the header that was read, and its sizes
 pub record ReadHeader (bytes : List ℕ) (t : HeaderState) : Type 0 where

@@ -1,7 +1,7 @@
 -- Each input spells a list of pages, or has a fault.
-use Rattle.std.proofs.Common.{◌≡◌, ℕ, ◌+◌, ◌<◌, ◌≤◌, ◌⊎◌, List, [], ◌∷◌, ◌++◌, length, take, drop, refl, sym, ap, subst, ◌∙◌, inl, inr, arith}
+use Rattle.std.proofs.Common.{◌≡◌, ℕ, ◌+◌, ◌<◌, ◌≤◌, ◌⊎◌, List, [], ◌∷◌, ◌++◌, length, refl, sym, ap, subst, ◌∙◌, inl, inr, arith}
 use Rattle.std.proofs.lemmas.Bool.{cases_lt}
-use Rattle.std.proofs.lemmas.List.{append-nil, length-append, length-take-le, length-drop, take-append-drop}
+use Rattle.std.proofs.lemmas.List.{append-nil, length-append}
 use Rattle.pbm_reader.specs.declared.fault.PageFault.{PageFault}
 use Rattle.pbm_reader.specs.declared.fault.PageFault.TheVariants as faults
 use Rattle.pbm_reader.specs.declared.form.Form.{Form}
@@ -10,7 +10,7 @@ use Rattle.packed_rows.specs.Page.{Page}
 use Rattle.pbm_reader.specs.Spelling.{Spells, magic}
 use Rattle.pbm_reader.specs.Fault.{Begins, HasFaultWithin}
 use Rattle.pbm_reader.specs.Images.{SpellsIn, AreImages, SpellsPages, ArePages, BeginsImage, FrontImages, behind_bytes, IsImageFault, HasFaultAfter, HasImagesFault, HasPagesFault}
-use Rattle.pbm_reader.proofs.Splits.{head_is, second_is}
+use Rattle.pbm_reader.proofs.Splits.{head_is, short_or_longer, second_is}
 use Rattle.pbm_reader.proofs.Settled.{IsShown, shown, begins_moved}
 use Rattle.pbm_reader.proofs.Judged.{is_cut}
 use Rattle.pbm_reader.proofs.RawImages.{form_begins, image_begins, begins_more, one_name, same_front}
@@ -259,18 +259,18 @@ settled_pages first behind fault len settles =
     )
 
 pub pages_judged : (input : List ℕ) → ArePages input ⊎ ((fault : PageFault) × HasPagesFault input fault)
-pages_judged input =
-    elim (cases_lt 268435456 (length input)) [
-      | inr short ↦
-          elim (judged_images input short) [
-            | inl p ↦ inl p
-            | inr f ↦ inr (f.fault, inr (f.has_fault, λ l. omega (arith, short, too_long_len input l)))
-          ]
-      | inl longer ↦
-          inr (subst (λ (l : List ℕ). (fault : PageFault) × HasPagesFault l fault) (take-append-drop 268435456 input)
-          (by_front (take 268435456 input) (drop 268435456 input) (length-take-le 268435456 input (omega (arith, longer))) (omega (arith, length-drop 268435456 input, longer))))
-    ]
+pages_judged input = short_or_longer P 268435456 of_short (λ first behind len more. inr (by_front first behind len more)) input
   where
+    P : List ℕ → Type 0
+    P l = ArePages l ⊎ ((fault : PageFault) × HasPagesFault l fault)
+
+    of_short : (input : List ℕ) → length input ≤ 268435456 → P input
+    of_short input short =
+        elim (judged_images input short) [
+          | inl p ↦ inl p
+          | inr f ↦ inr (f.fault, inr (f.has_fault, λ l. omega (arith, short, too_long_len input l)))
+        ]
+
     by_front : (first behind : List ℕ) → length first ≡ 268435456 → 0 < length behind → (fault : PageFault) × HasPagesFault (first ++ behind) fault
     by_front first behind len more =
         elim (judged_images first (omega (arith, len))) [

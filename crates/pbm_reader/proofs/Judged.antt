@@ -1,7 +1,7 @@
 -- Each input spells a page or has a fault.
-use Rattle.std.proofs.Common.{◌≡◌, ℕ, ◌*◌, ◌<◌, ◌≤◌, ◌⊎◌, min, Bool, true, false, List, [], ◌∷◌, ◌++◌, length, take, drop, Some, refl, sym, ap, subst, inl, inr, arith}
+use Rattle.std.proofs.Common.{◌≡◌, ℕ, ◌*◌, ◌<◌, ◌≤◌, ◌⊎◌, min, Bool, true, false, List, [], ◌∷◌, ◌++◌, length, Some, refl, sym, ap, subst, inl, inr, arith}
 use Rattle.std.proofs.lemmas.Bool.{cases_lt}
-use Rattle.std.proofs.lemmas.List.{append-nil, length-append, length-take-le, length-drop, take-append-drop}
+use Rattle.std.proofs.lemmas.List.{append-nil, length-append}
 use Rattle.pbm_reader.specs.declared.fault.PageFault.{PageFault}
 use Rattle.pbm_reader.specs.declared.fault.PageFault.TheVariants as faults
 use Rattle.pbm_reader.specs.declared.form.Form.{Form}
@@ -16,6 +16,7 @@ use Rattle.pbm_reader.proofs.HeaderWalk.{is_whole, header_machine, read_header}
 use Rattle.pbm_reader.proofs.Faults.{wrong_fault, missing_fault, too_long}
 use Rattle.pbm_reader.proofs.Gaps.{not_both}
 use Rattle.pbm_reader.proofs.Settled.{settled, shown}
+use Rattle.pbm_reader.proofs.Splits.{short_or_longer}
 use Rattle.pbm_reader.proofs.OneFault.{has_fault, long_fault}
 use Rattle.pbm_reader.proofs.RasterJudged.{JudgedWithin, sized_judged}
 
@@ -126,27 +127,28 @@ is_cut faults.ReadFault = inr (λ k e. absurd cc)
 is_cut faults.Memory = inr (λ k e. absurd cc)
 
 pub judged : (input : List ℕ) → IsPage input ⊎ ((fault : PageFault) × HasFault input fault)
-judged input =
-    elim (cases_lt 268435456 (length input)) [
-      | inr short ↦
-          elim (judged_within input short) [
-            | inl p ↦ inl p
-            | inr f ↦ inr (f.0, has_fault input f.0 f.1)
-          ]
-      | inl longer ↦
-          inr (subst (λ (l : List ℕ). (fault : PageFault) × HasFault l fault) (take-append-drop 268435456 input)
-          (by_front (take 268435456 input) (drop 268435456 input) (length-take-le 268435456 input (omega (arith, longer))) (omega (arith, length-drop 268435456 input, longer))))
-    ]
+judged input = short_or_longer P 268435456 (λ l short. of_short l (judged_within l short)) (λ front behind len more. inr (by_front front behind len more)) input
   where
+    P : List ℕ → Type 0
+    P l = IsPage l ⊎ ((fault : PageFault) × HasFault l fault)
+
+    of_short : (input : List ℕ) → JudgedWithin input → P input
+    of_short input (inl p) = inl p
+    of_short input (inr f) = inr (f.0, has_fault input f.0 f.1)
+
+    -- the fault of so many bytes, whether it is their end or not, with more behind them
+    refused : (front behind : List ℕ) → length front ≡ 268435456 → 0 < length behind → (fault : PageFault) → HasFaultWithin front fault → (fault : PageFault) × HasFault (front ++ behind) fault
+    refused front behind len more fault has =
+        elim (is_cut fault) [
+          | inl t ↦ (faults.InputTooLong, long_fault front behind len more (inr (t.0, subst (λ (k : PageFault). HasFaultWithin front k) t.1 has)))
+          | inr other ↦
+              let here = subst (λ (l : List ℕ). HasFaultWithin l fault) (sym (append-nil front)) has in
+              (fault, has_fault (front ++ behind) fault (settled front [] behind fault (inl len) (shown front front fault (omega (arith, len)) other has) here))
+        ]
+
     by_front : (front behind : List ℕ) → length front ≡ 268435456 → 0 < length behind → (fault : PageFault) × HasFault (front ++ behind) fault
     by_front front behind len more =
         elim (judged_within front (omega (arith, len))) [
           | inl p ↦ (faults.InputTooLong, long_fault front behind len more (inl p))
-          | inr f ↦
-              elim (is_cut f.0) [
-                | inl t ↦ (faults.InputTooLong, long_fault front behind len more (inr (t.0, subst (λ (k : PageFault). HasFaultWithin front k) t.1 f.1)))
-                | inr other ↦
-                    let here = subst (λ (l : List ℕ). HasFaultWithin l f.0) (sym (append-nil front)) f.1 in
-                    (f.0, has_fault (front ++ behind) f.0 (settled front [] behind f.0 (inl len) (shown front front f.0 (omega (arith, len)) other f.1) here))
-              ]
+          | inr f ↦ refused front behind len more f.0 f.1
         ]

@@ -42,6 +42,16 @@ run_split {State} step s u (byte ∷ a) b e = cases (λ n. run_split step n u a 
         let i = again n r in
         record { middle = i.middle; first = ap (λ (o : Option State). option_and_then (λ n. run step n a) o) t ∙ i.first; second = i.second }
 
+-- what holds where a last state is reached, and is carried back over each step, holds of all bytes that lead there
+pub carried_back : {State : Type 0} (step : State → ℕ → Option State) (t : State) (Rest : State → List ℕ → Type 0) → ((s : State) → s ≡ t → Rest s [])
+    → ((s n : State) (byte : ℕ) (bytes : List ℕ) → step s byte ≡ Some n → Rest n bytes → Rest s (byte ∷ bytes)) → (bytes : List ℕ) (s : State) → run step s bytes ≡ Some t → Rest s bytes
+carried_back step t Rest here back [] s e = here s (some_is s t e)
+carried_back {State} step t Rest here back (byte ∷ bytes) s e = cases (λ n r. carried_back step t Rest here back bytes n r) (step s byte) refl e
+  where
+    cases : ((n : State) → run step n bytes ≡ Some t → Rest n bytes) → (o : Option State) → step s byte ≡ o → option_and_then (λ n. run step n bytes) o ≡ Some t → Rest s (byte ∷ bytes)
+    cases again None p q = absurd (none_some t q)
+    cases again (Some n) p q = back s n byte bytes p (again n q)
+
 -- bytes behind a state that complete a text
 pub record Completes {State : Type 0} (step : State → ℕ → Option State) (is_whole : State → Bool) (s : State) : Type 0 where
   pub bytes : List ℕ

@@ -8,8 +8,8 @@ use Rattle.pbm_reader.specs.declared.plain.PixelStep.TheVariants.{Blank, Found, 
 use Rattle.pbm_reader.specs.Spelling.{is_white, is_line_end, AreInLine, IsBlank, SpellsPixels, IsRaster}
 use Rattle.pbm_reader.specs.Header.{in_gap, in_comment}
 use Rattle.pbm_reader.specs.Plain.{pixel_step, IsBlankPart, PixelsBegun}
-use Rattle.pbm_reader.proofs.Machines.{run, run_append, Machine, Completes, IsRead, IsOpen}
-use Rattle.pbm_reader.proofs.Gaps.{AfterBlank, AfterComment, ReadsGaps, blank_here, gap_blank, gap_white, gap_comment, comment_more, comment_end, run_blank, gap_white_step, comment_end_step, comment_more_step, some_is, none_some, tested, gap_tested}
+use Rattle.pbm_reader.proofs.Machines.{carried_back, run, run_append, Machine, Completes, IsRead, IsOpen}
+use Rattle.pbm_reader.proofs.Gaps.{AfterBlank, AfterComment, ReadsGaps, blank_here, gap_blank, gap_white, gap_comment, comment_back, run_blank, gap_white_step, comment_end_step, comment_more_step, none_some, tested, gap_tested}
 
 -- all pixels were read; or they were not, so many are wanted behind the next one, and a comment has begun or not
 pub data RasterState : Type 0 where
@@ -172,17 +172,8 @@ one_back t (between k pixels) n byte bytes e r = cases (gap_tested (between k pi
     cases (inr (inl h)) = subst (λ (b : ℕ). AfterBlank K (b ∷ bytes)) (sym h.0) (gap_blank K (35 ∷ bytes) (gap_comment K bytes (subst P h.1 r)))
     cases (inr (inr h)) =
         blank_here K (byte ∷ bytes) (zero_or_one (tested (eqb byte 48) (wanted k (pixels ++ 0 ∷ [])) n (cond (eqb byte 49) (Some (wanted k (pixels ++ 1 ∷ []))) None) h))
-one_back t (comment k pixels) n byte bytes e r = cases (tested (is_line_end byte) (between k pixels) n (Some (comment k pixels)) e)
-  where
-    P : RasterState → Type 0
-    P s = Rest t s bytes
-
-    K : List ℕ → Type 0
-    K = PixelPart t k pixels
-
-    cases : ((is_line_end byte ≡ true) × (n ≡ between k pixels)) ⊎ ((is_line_end byte ≡ false) × ((let o : Option RasterState = Some (comment k pixels) in o) ≡ Some n)) → AfterComment K (byte ∷ bytes)
-    cases (inl w) = comment_end K byte bytes w.0 (subst P w.1 r)
-    cases (inr w) = comment_more K byte bytes w.0 (subst P (sym (some_is (comment k pixels) n w.1)) r)
+one_back t (comment k pixels) n byte bytes e r =
+    comment_back (λ (s : RasterState). Rest t s bytes) (PixelPart t k pixels) (between k pixels) (comment k pixels) n byte bytes (λ b. b) (λ c. c) e r
 
 done_here : (t s : RasterState) → s ≡ t → is_done t ≡ true → Rest t s []
 done_here t s e d = cases s e (subst (λ (k : RasterState). is_done k ≡ true) (sym e) d)
@@ -193,13 +184,7 @@ done_here t s e d = cases s e (subst (λ (k : RasterState). is_done k ≡ true) 
     cases (comment n pixels) e d = absurd cc
 
 ends_raster : (bytes : List ℕ) (s t : RasterState) → run raster_step s bytes ≡ Some t → is_done t ≡ true → Rest t s bytes
-ends_raster [] s t e d = done_here t s (some_is s t e) d
-ends_raster (byte ∷ bytes) s t e d = cases (λ n r. ends_raster bytes n t r d) (raster_step s byte) refl e
-  where
-    cases : ((n : RasterState) → run raster_step n bytes ≡ Some t → Rest t n bytes) → (o : Option RasterState) → raster_step s byte ≡ o
-        → option_and_then (λ n. run raster_step n bytes) o ≡ Some t → Rest t s (byte ∷ bytes)
-    cases again None p q = absurd (none_some t q)
-    cases again (Some n) p q = one_back t s n byte bytes p (again n q)
+ends_raster bytes s t e d = carried_back raster_step t (Rest t) (λ s is. done_here t s is d) (one_back t) bytes s e
 
 pub read_pixels : (count : ℕ) (bytes : List ℕ) (t : RasterState) → run raster_step (wanted count []) bytes ≡ Some t → is_done t ≡ true → Spelled t count [] bytes
 read_pixels count bytes t e d = spelled_of t count [] bytes (ends_raster bytes (wanted count []) t e d)

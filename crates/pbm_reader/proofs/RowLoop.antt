@@ -81,28 +81,31 @@ raster_bound width height start s short =
     let open_up : height * (width + 7) ≡ width * height + height * 7 = omega arith in
     omega (arith, all, swap, open_up, area, high, short)
 
+-- rows and a part of the next one are less than a raster
+less_than_rows : (width height y : ℕ) (rows part : List ℕ) → y < height → length rows ≡ y * row_len width → length part < row_len width → length (rows ++ part) < height * row_len width
+less_than_rows width height y rows part lt len less =
+    let all : suc y * row_len width ≤ height * row_len width = mul-le-mul_right (row_len width) lt in
+    let one_more : suc y * row_len width ≡ y * row_len width + row_len width = omega arith in
+    omega (arith, length-append rows part, len, less, all, one_more)
+
 -- why a row was not read is why the raster was not read
 pub row_fails : {Sink : Type 0} (given : Sink → List ℕ → Sink → Type 0) (old middle new : SourceView) (width height y start : ℕ) (before sink : Sink) (fault : PageFault)
     → IsGiving given old middle width height y before sink → y < height → IsPageSize width height → start ≤ 65536
     → BytesFail middle new (start + y * row_len width) (row_len width) fault → RasterFails old new Raw width height start fault
 row_fails given old middle new width height y start before sink (faults.Truncated end) g lt size short h =
-    let rows : suc y * row_len width ≤ height * row_len width = mul-le-mul_right (row_len width) lt in
-    let one_more : suc y * row_len width ≡ y * row_len width + row_len width = omega arith in
-    let len = length-append g.part h.0 in (
+    let less = less_than_rows width height y g.part h.0 lt g.len h.2 in (
       g.part ++ h.0,
       took_all old middle new g.part h.0 g.took h.1,
-      raw_begins width height (g.part ++ h.0) (omega (arith, len, g.len, h.2, rows, one_more)),
-      omega (arith, len, g.len, h.3),
-      omega (arith, raster_bound width height start size short, g.len, h.2, h.3, rows, one_more),
+      raw_begins width height (g.part ++ h.0) less,
+      omega (arith, length-append g.part h.0, g.len, h.3),
+      omega (arith, raster_bound width height start size short, less, length-append g.part h.0, g.len, h.3),
     )
 row_fails given old middle new width height y start before sink faults.ReadFault g lt size short h =
-    let rows : suc y * row_len width ≤ height * row_len width = mul-le-mul_right (row_len width) lt in
-    let one_more : suc y * row_len width ≡ y * row_len width + row_len width = omega arith in
-    let len = length-append g.part h.0 in (
+    let less = less_than_rows width height y g.part h.0 lt g.len h.2 in (
       g.part ++ h.0,
       took_more old middle new g.part h.0 g.took h.1,
-      raw_begins width height (g.part ++ h.0) (omega (arith, len, g.len, h.2, rows, one_more)),
-      omega (arith, raster_bound width height start size short, len, g.len, h.2, rows, one_more),
+      raw_begins width height (g.part ++ h.0) less,
+      omega (arith, raster_bound width height start size short, less),
     )
 row_fails given old middle new width height y start before sink faults.Memory g lt size short h = tt
 row_fails given old middle new width height y start before sink (faults.Magic at) g lt size short h = absurd h

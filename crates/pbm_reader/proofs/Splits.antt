@@ -1,6 +1,7 @@
 -- Lists that were put together in two ways.
-use Rattle.std.proofs.Common.{◌≡◌, ℕ, ◌<◌, ◌≤◌, List, [], ◌∷◌, ◌++◌, length, refl, sym, ◌∙◌, append_assoc, arith}
-use Rattle.std.proofs.lemmas.List.{length-append}
+use Rattle.std.proofs.Common.{◌≡◌, ℕ, ◌<◌, ◌≤◌, List, [], ◌∷◌, ◌++◌, length, take, drop, refl, sym, subst, ◌∙◌, append_assoc, inl, inr, arith}
+use Rattle.std.proofs.lemmas.Bool.{cases_lt}
+use Rattle.std.proofs.lemmas.List.{length-append, length-take-le, length-drop, take-append-drop}
 
 pub head_is : (x y : ℕ) (xs ys : List ℕ) → x ∷ xs ≡ y ∷ ys → x ≡ y
 head_is x y xs ys e = cc
@@ -42,3 +43,14 @@ has_byte a x p byte q e lt =
 pub nothing_behind : (a : List ℕ) → length a ≡ 0 → a ≡ []
 nothing_behind [] e = refl
 nothing_behind (byte ∷ a) e = absurd (omega (arith, e))
+
+-- what holds of each list of at most so many bytes, and of each list of so many with more behind it, holds of every list
+pub short_or_longer : (P : List ℕ → Type 0) (len : ℕ) → ((input : List ℕ) → length input ≤ len → P input)
+    → ((front behind : List ℕ) → length front ≡ len → 0 < length behind → P (front ++ behind)) → (input : List ℕ) → P input
+short_or_longer P len short by_front input =
+    elim (cases_lt len (length input)) [
+      | inr le ↦ short input le
+      | inl longer ↦
+          subst P (take-append-drop len input)
+          (by_front (take len input) (drop len input) (length-take-le len input (omega (arith, longer))) (omega (arith, length-drop len input, longer)))
+    ]

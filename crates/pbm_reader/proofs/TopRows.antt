@@ -1,7 +1,7 @@
 -- The rows that were given before a fault.
 use Rattle.std.proofs.Common.{◌≡◌, ℕ, ◌+◌, ◌≤◌, List, [], ◌∷◌, ◌++◌, length, Option, Result, Ok, Err, refl, sym, ap, subst, ◌∙◌, append_assoc, inl, inr, arith}
 use Rattle.std.specs.Prelude.{IfErr}
-use Rattle.std.proofs.lemmas.List.{length-append}
+use Rattle.std.proofs.lemmas.List.{append-nil, length-append}
 use Rattle.std.specs.Io.KnownBytes.{prepend_known}
 use Rattle.layout_outside.specs.Views.{SourceView}
 use Rattle.layout_outside.specs.Taken.{Took}
@@ -32,47 +32,39 @@ Stopped old new at fault = (bytes : List ℕ) × Took old new bytes × StandsBeh
 pub unread : (old : SourceView) (at : ℕ) → Stopped old old at faults.Memory
 unread old at = ([], prepend_nothing old.left, tt)
 
+-- what is so of each fault that the bytes of a raster, or those behind it, can have is so of every fault that they have: they have none of the others
+by_kind : (F S : PageFault → Type 0) → ((at : ℕ) → F (faults.Magic at) → ⊥) → ((at : ℕ) → F (faults.Header at) → ⊥) → (F faults.HeaderTooLong → ⊥) → (F faults.ZeroSize → ⊥)
+    → ((wide high : ℕ) → F (faults.TooLarge wide high) → ⊥) → (F faults.TooManyImages → ⊥)
+    → ((at : ℕ) → F (faults.Truncated at) → S (faults.Truncated at)) → ((at : ℕ) → F (faults.Pixel at) → S (faults.Pixel at)) → ((at : ℕ) → F (faults.Trailing at) → S (faults.Trailing at))
+    → (F faults.InputTooLong → S faults.InputTooLong) → (F faults.ReadFault → S faults.ReadFault) → (F faults.Memory → S faults.Memory) → (fault : PageFault) → F fault → S fault
+by_kind F S magic header long zero large many truncated pixel trailing too_long cut memory (faults.Magic at) f = absurd (magic at f)
+by_kind F S magic header long zero large many truncated pixel trailing too_long cut memory (faults.Header at) f = absurd (header at f)
+by_kind F S magic header long zero large many truncated pixel trailing too_long cut memory faults.HeaderTooLong f = absurd (long f)
+by_kind F S magic header long zero large many truncated pixel trailing too_long cut memory faults.ZeroSize f = absurd (zero f)
+by_kind F S magic header long zero large many truncated pixel trailing too_long cut memory (faults.TooLarge wide high) f = absurd (large wide high f)
+by_kind F S magic header long zero large many truncated pixel trailing too_long cut memory faults.TooManyImages f = absurd (many f)
+by_kind F S magic header long zero large many truncated pixel trailing too_long cut memory (faults.Truncated at) f = truncated at f
+by_kind F S magic header long zero large many truncated pixel trailing too_long cut memory (faults.Pixel at) f = pixel at f
+by_kind F S magic header long zero large many truncated pixel trailing too_long cut memory (faults.Trailing at) f = trailing at f
+by_kind F S magic header long zero large many truncated pixel trailing too_long cut memory faults.InputTooLong f = too_long f
+by_kind F S magic header long zero large many truncated pixel trailing too_long cut memory faults.ReadFault f = cut f
+by_kind F S magic header long zero large many truncated pixel trailing too_long cut memory faults.Memory f = memory f
+
 pub bytes_stopped : (old new : SourceView) (at len : ℕ) (fault : PageFault) → BytesFail old new at len fault → Stopped old new at fault
-bytes_stopped old new at len (faults.Truncated end) f = (f.0, f.1.took, omega (arith, f.3))
-bytes_stopped old new at len faults.ReadFault f = (f.0, f.1, tt)
-bytes_stopped old new at len faults.Memory f = (f.0, f.1, tt)
-bytes_stopped old new at len (faults.Magic place) f = absurd f
-bytes_stopped old new at len (faults.Header place) f = absurd f
-bytes_stopped old new at len faults.HeaderTooLong f = absurd f
-bytes_stopped old new at len faults.ZeroSize f = absurd f
-bytes_stopped old new at len faults.TooManyImages f = absurd f
-bytes_stopped old new at len (faults.TooLarge wide high) f = absurd f
-bytes_stopped old new at len (faults.Pixel place) f = absurd f
-bytes_stopped old new at len (faults.Trailing place) f = absurd f
-bytes_stopped old new at len faults.InputTooLong f = absurd f
+bytes_stopped old new at len fault fails =
+    by_kind (BytesFail old new at len) (Stopped old new at) (λ k f. f) (λ k f. f) (λ f. f) (λ f. f) (λ w h f. f) (λ f. f)
+    (λ end f. (f.0, f.1.took, omega (arith, f.3))) (λ k f. absurd f) (λ k f. absurd f) (λ f. absurd f) (λ f. (f.0, f.1, tt)) (λ f. (f.0, f.1, tt)) fault fails
 
 pub pixels_stopped : (old new : SourceView) (at count : ℕ) (fault : PageFault) → PixelsFail old new at count fault → Stopped old new at fault
-pixels_stopped old new at count (faults.Truncated end) f = (f.1, f.2.took, omega (arith, f.4))
-pixels_stopped old new at count (faults.Pixel place) f = (f.0 ++ f.1 ∷ [], f.2, omega (arith, f.5))
-pixels_stopped old new at count faults.InputTooLong f = (f.1 ++ f.2 ∷ [], f.3, omega (arith, f.5))
-pixels_stopped old new at count faults.ReadFault f = (f.1, f.2, tt)
-pixels_stopped old new at count faults.Memory f = (f.0, f.1, tt)
-pixels_stopped old new at count (faults.Magic place) f = absurd f
-pixels_stopped old new at count (faults.Header place) f = absurd f
-pixels_stopped old new at count faults.HeaderTooLong f = absurd f
-pixels_stopped old new at count faults.ZeroSize f = absurd f
-pixels_stopped old new at count faults.TooManyImages f = absurd f
-pixels_stopped old new at count (faults.TooLarge wide high) f = absurd f
-pixels_stopped old new at count (faults.Trailing place) f = absurd f
+pixels_stopped old new at count fault fails =
+    by_kind (PixelsFail old new at count) (Stopped old new at) (λ k f. f) (λ k f. f) (λ f. f) (λ f. f) (λ w h f. f) (λ f. f)
+    (λ end f. (f.1, f.2.took, omega (arith, f.4))) (λ place f. (f.0 ++ f.1 ∷ [], f.2, omega (arith, f.5))) (λ k f. absurd f) (λ f. (f.1 ++ f.2 ∷ [], f.3, omega (arith, f.5)))
+    (λ f. (f.1, f.2, tt)) (λ f. (f.0, f.1, tt)) fault fails
 
 tail_stopped : (old new : SourceView) (form : Form) (at : ℕ) (fault : PageFault) → TailFails old new form at fault → Stopped old new at fault
-tail_stopped old new form at (faults.Trailing place) f = (f.0 ∷ [], f.1, omega (arith, f.3))
-tail_stopped old new form at faults.InputTooLong f = (f.0, f.1, omega (arith, f.2.4))
-tail_stopped old new form at faults.ReadFault f = (f.0, f.1, tt)
-tail_stopped old new form at (faults.Magic place) f = absurd f
-tail_stopped old new form at (faults.Header place) f = absurd f
-tail_stopped old new form at faults.HeaderTooLong f = absurd f
-tail_stopped old new form at faults.ZeroSize f = absurd f
-tail_stopped old new form at faults.TooManyImages f = absurd f
-tail_stopped old new form at (faults.TooLarge wide high) f = absurd f
-tail_stopped old new form at (faults.Truncated place) f = absurd f
-tail_stopped old new form at (faults.Pixel place) f = absurd f
-tail_stopped old new form at faults.Memory f = absurd f
+tail_stopped old new form at fault fails =
+    by_kind (TailFails old new form at) (Stopped old new at) (λ k f. f) (λ k f. f) (λ f. f) (λ f. f) (λ w h f. f) (λ f. f)
+    (λ k f. absurd f) (λ k f. absurd f) (λ place f. (f.0 ∷ [], f.1, omega (arith, f.3))) (λ f. (f.0, f.1, omega (arith, f.2.4))) (λ f. (f.0, f.1, tt)) (λ f. absurd f) fault fails
 
 -- ---- the rows of a page
 
@@ -132,12 +124,12 @@ rows_top begun given unchanged old later new rows before after fault t f =
 
 -- ---- the same rows, seen otherwise
 
--- behind what was taken stands more that was dropped
-pub after_moved : {Sink : Type 0} (begun : Sink → ℕ → ℕ → Sink → Type 0) (given : Sink → List ℕ → Sink → Type 0) (unchanged : Sink → Sink → Type 0) (old new first last : SourceView)
-    (more : List ℕ) (before after : Sink) (fault : PageFault) → ((bytes : List ℕ) → Took first last bytes → Took old new (bytes ++ more))
-    → AfterFault begun given unchanged first last before after fault → AfterFault begun given unchanged old new before after fault
-after_moved begun given unchanged old new first last more before after fault moves (inl stays) = inl stays
-after_moved begun given unchanged old new first last more before after fault moves (inr t) =
+-- behind what was taken stands more that was dropped, and another fault was answered
+after_either : {Sink : Type 0} (begun : Sink → ℕ → ℕ → Sink → Type 0) (given : Sink → List ℕ → Sink → Type 0) (unchanged : Sink → Sink → Type 0) (old new first last : SourceView) (more : List ℕ) (before after : Sink)
+    (own fault : PageFault) → ((bytes : List ℕ) → Took first last bytes → Took old new (bytes ++ more)) → ((n : ℕ) → StandsBehind n own → StandsBehind n fault)
+    → AfterFault begun given unchanged first last before after own → AfterFault begun given unchanged old new before after fault
+after_either begun given unchanged old new first last more before after own fault moves place (inl stays) = inl stays
+after_either begun given unchanged old new first last more before after own fault moves place (inr t) =
     let all : (t.header ++ (t.raster ++ t.rest)) ++ more ≡ t.header ++ (t.raster ++ (t.rest ++ more)) =
     append_assoc t.header (t.raster ++ t.rest) more ∙ ap (λ (l : List ℕ). t.header ++ l) (append_assoc t.raster t.rest more) in
     inr (record {
@@ -147,27 +139,6 @@ after_moved begun given unchanged old new first last more before after fault mov
       raster = t.raster;
       rest = t.rest ++ more;
       took = moves (t.header ++ (t.raster ++ t.rest)) t.took ∙ ap (λ (l : List ℕ). prepend_known l new.left) all;
-      place = t.place;
-      is_header = t.is_header;
-      short = t.short;
-      size = t.size;
-      empty = t.empty;
-      begins = t.begins;
-      top = t.top;
-    })
-
--- another fault was answered
-pub after_other : {Sink : Type 0} (begun : Sink → ℕ → ℕ → Sink → Type 0) (given : Sink → List ℕ → Sink → Type 0) (unchanged : Sink → Sink → Type 0) (old new : SourceView) (before after : Sink)
-    (own fault : PageFault) → ((n : ℕ) → StandsBehind n own → StandsBehind n fault) → AfterFault begun given unchanged old new before after own → AfterFault begun given unchanged old new before after fault
-after_other begun given unchanged old new before after own fault place (inl stays) = inl stays
-after_other begun given unchanged old new before after own fault place (inr t) =
-    inr (record {
-      form = t.form;
-      page = t.page;
-      header = t.header;
-      raster = t.raster;
-      rest = t.rest;
-      took = t.took;
       place = place (length t.header + length t.raster) t.place;
       is_header = t.is_header;
       short = t.short;
@@ -176,6 +147,17 @@ after_other begun given unchanged old new before after own fault place (inr t) =
       begins = t.begins;
       top = t.top;
     })
+
+pub after_moved : {Sink : Type 0} (begun : Sink → ℕ → ℕ → Sink → Type 0) (given : Sink → List ℕ → Sink → Type 0) (unchanged : Sink → Sink → Type 0) (old new first last : SourceView)
+    (more : List ℕ) (before after : Sink) (fault : PageFault) → ((bytes : List ℕ) → Took first last bytes → Took old new (bytes ++ more))
+    → AfterFault begun given unchanged first last before after fault → AfterFault begun given unchanged old new before after fault
+after_moved begun given unchanged old new first last more before after fault moves fails =
+    after_either begun given unchanged old new first last more before after fault fault moves (λ n stands. stands) fails
+
+pub after_other : {Sink : Type 0} (begun : Sink → ℕ → ℕ → Sink → Type 0) (given : Sink → List ℕ → Sink → Type 0) (unchanged : Sink → Sink → Type 0) (old new : SourceView) (before after : Sink)
+    (own fault : PageFault) → ((n : ℕ) → StandsBehind n own → StandsBehind n fault) → AfterFault begun given unchanged old new before after own → AfterFault begun given unchanged old new before after fault
+after_other begun given unchanged old new before after own fault place fails =
+    after_either begun given unchanged old new old new [] before after own fault (λ bytes took. subst (Took old new) (sym (append-nil bytes)) took) place fails
 
 -- a page that was given whole is all of its rows
 pub image_after : {Sink : Type 0} (begun : Sink → ℕ → ℕ → Sink → Type 0) (given : Sink → List ℕ → Sink → Type 0) (unchanged : Sink → Sink → Type 0) (old new : SourceView) (before after : Sink)

@@ -5,6 +5,7 @@ mod judge;
 mod several;
 mod spaces;
 
+use crate::PageFault::{Trailing, Truncated};
 use crate::{
     PageFault, RowSink, Size, each_input_is_judged, equal_pictures_are_one_page, read_page,
 };
@@ -263,47 +264,31 @@ fn no_read_is_made_behind_a_decided_fault(rt: HostRuntime) -> Result<(), Fail> {
     Ok(())
 }
 
-// Inputs that are refused, the row at which the sink refuses, the fault, and the bytes of the rows given before it.
-const TOPS: [(&[u8], u16, PageFault, &[u8]); 7] = [
-    (
-        b"P4\n8 3\n\x01\x02",
-        u16::MAX,
-        PageFault::Truncated { at: 9 },
-        b"\x01\x02",
-    ),
-    (
-        b"P4\n16 2\n\x01\x02\x03",
-        u16::MAX,
-        PageFault::Truncated { at: 11 },
-        b"\x01\x02",
-    ),
-    (
-        b"P4\n8 1\n\x01\x02",
-        u16::MAX,
-        PageFault::Trailing { at: 8 },
-        b"\x01",
-    ),
-    (b"P4\n8 3\n\x01\x02\x03", 2, PageFault::Memory, b"\x01\x02"),
-    (
-        b"P1\n2 2\n110x",
-        u16::MAX,
-        PageFault::Pixel { at: 10 },
-        b"\xc0",
-    ),
-    (
-        b"P1\n2 2\n1101x",
-        u16::MAX,
-        PageFault::Trailing { at: 11 },
-        b"\xc0\x40",
-    ),
-    (b"P1\n2 2\n1101 x", 1, PageFault::Memory, b"\xc0"),
+// Inputs that are refused, the fault, and the bytes of the rows given before it.
+const TOPS: [(&[u8], PageFault, &[u8]); 5] = [
+    (b"P4\n8 3\n\x01\x02", Truncated { at: 9 }, b"\x01\x02"),
+    (b"P4\n16 2\n\x01\x02\x03", Truncated { at: 11 }, b"\x01\x02"),
+    (b"P4\n8 1\n\x01\x02", Trailing { at: 8 }, b"\x01"),
+    (b"P1\n2 2\n110x", PageFault::Pixel { at: 10 }, b"\xc0"),
+    (b"P1\n2 2\n1101x", Trailing { at: 11 }, b"\xc0\x40"),
+];
+
+// Inputs, the row that the sink refuses, and the bytes of the rows given before it.
+const REFUSED_ROWS: [(&[u8], u16, &[u8]); 2] = [
+    (b"P4\n8 3\n\x01\x02\x03", 2, b"\x01\x02"),
+    (b"P1\n2 2\n1101 x", 1, b"\xc0"),
 ];
 
 #[test]
 fn a_fault_leaves_the_top_rows(rt: HostRuntime) -> Result<(), Fail> {
-    for (input, refuses, fault, bytes) in TOPS {
-        let outcome = read(rt.alloc(), input, 1, refuses)?;
+    for (input, fault, bytes) in TOPS {
+        let outcome = read(rt.alloc(), input, 1, u16::MAX)?;
         assert_eq!(rt; outcome.result, Err(fault), "{input:?}");
+        assert_eq!(rt; outcome.rows.bytes.as_slice(), bytes, "{input:?}");
+    }
+    for (input, refuses, bytes) in REFUSED_ROWS {
+        let outcome = read(rt.alloc(), input, 1, refuses)?;
+        assert_eq!(rt; outcome.result, Err(PageFault::Memory), "{input:?}");
         assert_eq!(rt; outcome.rows.bytes.as_slice(), bytes, "{input:?}");
     }
     Ok(())

@@ -4,9 +4,11 @@ ghost use Rattle.std.specs.Io.KnownBytes.{IsAtEnd};
 
 use super::spaces::Spaces;
 use super::{Rows, size};
+use crate::PageFault::{Header, Magic, TooLarge, Trailing, Truncated};
 use crate::{Images, PageFault, Size};
 use layout_outside::{MemSource, Source};
 use std::alloc::Global;
+use std::process::Abort;
 use std::test::Fail;
 
 // A reader of images with its source and sink.
@@ -43,92 +45,87 @@ impl Reading {
     }
 }
 
-// Inputs, how many whole images they begin with, the bytes of their rows, and the last answer.
-const INPUTS: [(&[u8], u32, &[u8], Result<Option<Size>, PageFault>); 17] = [
+// Inputs, how many images they have, and the bytes of their rows.
+const INPUTS: [(&[u8], u32, &[u8]); 3] = [
     (
         b"P4\n9 3\n\x01\xff\x80\x7f\xff\x80P4\n8 1\n\xaa",
         2,
         b"\x01\x80\x80\0\xff\x80\xaa",
-        Ok(None),
     ),
     // each image has a header of its own, with its comments
-    (
-        b"P4 #1\n8 1\n\x01P4\n#2\n1 2 \x80\xff",
-        2,
-        b"\x01\x80\x80",
-        Ok(None),
-    ),
-    // a plain image is read to the end of the input, and stands alone
-    (b"P1\n1 1\n0\nP4\n8 1\n\0", 1, b"\0", Ok(None)),
-    (
-        b"P1\n1 1\n0P4",
-        0,
-        b"\0",
-        Err(PageFault::Trailing { at: 8 }),
-    ),
-    (
-        b"P4\n8 1\n\0P1\n1 1\n0",
-        1,
-        b"\0",
-        Err(PageFault::Magic { at: 9 }),
-    ),
-    (b"", 0, b"", Err(PageFault::Magic { at: 0 })),
-    (b"P4", 0, b"", Err(PageFault::Truncated { at: 2 })),
+    (b"P4 #1\n8 1\n\x01P4\n#2\n1 2 \x80\xff", 2, b"\x01\x80\x80"),
+    // a plain image is read to the end of the input
+    (b"P1\n1 1\n0\nP4\n8 1\n\0", 1, b"\0"),
+];
+
+// Inputs that are refused, how many whole images they begin with, the bytes of the rows that are given, and the fault.
+const REFUSED: [(&[u8], u32, &[u8], PageFault); 14] = [
+    // a plain image stands alone
+    (b"P1\n1 1\n0P4", 0, b"\0", Trailing { at: 8 }),
+    (b"P4\n8 1\n\0P1\n1 1\n0", 1, b"\0", Magic { at: 9 }),
+    (b"", 0, b"", Magic { at: 0 }),
+    (b"P4", 0, b"", Truncated { at: 2 }),
     // offsets count from the front of the input
-    (b"P4\n8 1\n\0\0", 1, b"\0", Err(PageFault::Magic { at: 8 })),
-    (b"P4\n8 1\n\0\n", 1, b"\0", Err(PageFault::Magic { at: 8 })),
-    (b"P4\n8 1\n\0P", 1, b"\0", Err(PageFault::Magic { at: 9 })),
-    (b"P4\n8 1\n\0P5", 1, b"\0", Err(PageFault::Magic { at: 9 })),
-    (
-        b"P4\n8 1\n\0P4",
-        1,
-        b"\0",
-        Err(PageFault::Truncated { at: 10 }),
-    ),
+    (b"P4\n8 1\n\0\0", 1, b"\0", Magic { at: 8 }),
+    (b"P4\n8 1\n\0\n", 1, b"\0", Magic { at: 8 }),
+    (b"P4\n8 1\n\0P", 1, b"\0", Magic { at: 9 }),
+    (b"P4\n8 1\n\0P5", 1, b"\0", Magic { at: 9 }),
+    (b"P4\n8 1\n\0P4", 1, b"\0", Truncated { at: 10 }),
     (
         b"P4\n8 1\n\0P4\n16 2\n\x01\x02\x03",
         1,
         b"\0\x01\x02",
-        Err(PageFault::Truncated { at: 19 }),
+        Truncated { at: 19 },
     ),
-    (
-        b"P4\n8 1\n\0P4\n8 x",
-        1,
-        b"\0",
-        Err(PageFault::Header { at: 13 }),
-    ),
-    (b"P4\n8 1\n\0P4\n0 1\n", 1, b"\0", Err(PageFault::ZeroSize)),
+    (b"P4\n8 1\n\0P4\n8 x", 1, b"\0", Header { at: 13 }),
+    (b"P4\n8 1\n\0P4\n0 1\n", 1, b"\0", PageFault::ZeroSize),
     (
         b"P4\n8 1\n\0P4\n8193 1\n",
         1,
         b"\0",
-        Err(PageFault::TooLarge {
+        TooLarge {
             width: 8193,
             height: 1,
-        }),
+        },
     ),
     (
         b"P4\n8 1\n\0P4\n8 1\n\0P4\n8 1#",
         2,
         b"\0\0",
-        Err(PageFault::Header { at: 22 }),
+        Header { at: 22 },
     ),
 ];
 
+// Reads an input in pieces of each of three sizes.
+fn read_in_pieces(
+    rt: &impl Abort,
+    alloc: Global,
+    input: &[u8],
+    count: u32,
+    bytes: &[u8],
+    last: Result<Option<Size>, PageFault>,
+) -> Result<(), Fail> {
+    for piece in [1, 3, 65_536] {
+        let mut reading = reader_of(alloc, input, piece, &[])?;
+        let answer = reading.read(alloc);
+        assert_eq!(rt; answer, last, "{input:?}, piece {piece}");
+        assert_eq!(rt; reading.images.count(), count, "{input:?}, piece {piece}");
+        assert_eq!(rt;
+            reading.rows.bytes.as_slice(),
+            bytes,
+            "{input:?}, piece {piece}"
+        );
+    }
+    Ok(())
+}
+
 #[test]
 fn images_are_given_one_after_the_other(rt: HostRuntime) -> Result<(), Fail> {
-    for piece in [1, 3, 65_536] {
-        for (input, count, bytes, last) in INPUTS {
-            let mut reading = reader_of(rt.alloc(), input, piece, &[])?;
-            let answer = reading.read(rt.alloc());
-            assert_eq!(rt; answer, last, "{input:?}, piece {piece}");
-            assert_eq!(rt; reading.images.count(), count, "{input:?}, piece {piece}");
-            assert_eq!(rt;
-                reading.rows.bytes.as_slice(),
-                bytes,
-                "{input:?}, piece {piece}"
-            );
-        }
+    for (input, count, bytes) in INPUTS {
+        read_in_pieces(&rt, rt.alloc(), input, count, bytes, Ok(None))?;
+    }
+    for (input, count, bytes, fault) in REFUSED {
+        read_in_pieces(&rt, rt.alloc(), input, count, bytes, Err(fault))?;
     }
     Ok(())
 }

@@ -48,6 +48,25 @@ fn lease(white: &White, frontier: &mut Frontier<Region>) -> Option<Lease<Region>
     }
 }
 
+/// Leases an open node, which has this shape.
+fn leased(
+    rt: &impl Abort,
+    white: &White,
+    frontier: &mut Frontier<Region>,
+    shape: Shape,
+) -> Lease<Region>
+    requires fitting { All (FitsWhite (white_numbers white.now)) frontier.old.open_nodes }
+    ensures fitting { All (FitsWhite (white_numbers white.now)) frontier.new.open_nodes }
+    ensures fits { FitsWhite (white_numbers white.now) result.node }
+    ensures out { Contains frontier.new.leased (entry_of result) }
+{
+    let Some(lease) = lease(white, frontier) else {
+        panic!(rt; "nothing is open");
+    };
+    assert!(rt; lease.node.shape == shape);
+    lease
+}
+
 /// `Some` where nothing is open and something is out.
 fn look_idle(white: &White, frontier: &mut Frontier<Region>) -> Option<()>
     requires fitting { All (FitsWhite (white_numbers white.now)) frontier.old.open_nodes }
@@ -135,10 +154,8 @@ fn cut_the_page(
     requires fitting { All (FitsWhite (white_numbers white.now)) frontier.old.open_nodes }
     ensures fitting { OnOk result (All (FitsWhite (white_numbers white.now)) frontier.new.open_nodes) }
 {
-    let Some(whole) = lease(white, frontier) else {
-        panic!(rt; "nothing is open");
-    };
-    assert!(rt; whole.number == 0 && whole.node.shape == shape_of(0, 0, 16, 16));
+    let whole = leased(rt, white, frontier, shape_of(0, 0, 16, 16));
+    assert!(rt; whole.number == 0);
     let Some(()) = look_idle(white, frontier) else {
         panic!(rt; "not idle");
     };
@@ -148,43 +165,6 @@ fn cut_the_page(
         nodes[0].shape == shape_of(3, 0, 16, 16) && nodes[1].shape == shape_of(0, 3, 16, 16)
     );
     finish(white, frontier, whole, nodes, 0)
-}
-
-/// The part right of the block is leased and opened again.
-fn look_at_the_right(
-    rt: &impl Abort,
-    alloc: Global,
-    white: &White,
-    frontier: &mut Frontier<Region>,
-) -> Result<(), OutOfMemory>
-    requires fitting { All (FitsWhite (white_numbers white.now)) frontier.old.open_nodes }
-    ensures fitting { OnOk result (All (FitsWhite (white_numbers white.now)) frontier.new.open_nodes) }
-{
-    let Some(right) = lease(white, frontier) else {
-        panic!(rt; "nothing is open");
-    };
-    assert!(rt; right.node.shape == shape_of(3, 0, 16, 16));
-    assert!(rt; settle(rt, alloc, white, &right.node)? == RIGHT);
-    reopen(white, frontier, right);
-    Ok(())
-}
-
-/// A part is leased and ended.
-fn end_a_part(
-    rt: &impl Abort,
-    alloc: Global,
-    white: &White,
-    frontier: &mut Frontier<Region>,
-    shape: Shape,
-) -> Result<(), OutOfMemory>
-    requires fitting { All (FitsWhite (white_numbers white.now)) frontier.old.open_nodes }
-    ensures fitting { OnOk result (All (FitsWhite (white_numbers white.now)) frontier.new.open_nodes) }
-{
-    let Some(part) = lease(white, frontier) else {
-        panic!(rt; "nothing is open");
-    };
-    assert!(rt; part.node.shape == shape);
-    finish(white, frontier, part, Vec::new(alloc), RIGHT)
 }
 
 #[test]
@@ -197,9 +177,15 @@ fn frontier_by_hand(rt: HostRuntime) -> Result<(), Fail> {
     let mut frontier = begin(alloc, &white, root)?;
     cut_the_page(&rt, alloc, &white, &mut frontier)?;
     assert!(rt; frontier.waiting() == 2 && frontier.out() == 0);
-    look_at_the_right(&rt, alloc, &white, &mut frontier)?;
-    end_a_part(&rt, alloc, &white, &mut frontier, shape_of(3, 0, 16, 16))?;
-    end_a_part(&rt, alloc, &white, &mut frontier, shape_of(0, 3, 16, 16))?;
+
+    // The part right of the block is leased and opened again. Then both parts are leased and ended.
+    let right = leased(&rt, &white, &mut frontier, shape_of(3, 0, 16, 16));
+    assert!(rt; settle(&rt, alloc, &white, &right.node)? == RIGHT);
+    reopen(&white, &mut frontier, right);
+    let right = leased(&rt, &white, &mut frontier, shape_of(3, 0, 16, 16));
+    finish(&white, &mut frontier, right, Vec::new(alloc), RIGHT)?;
+    let below = leased(&rt, &white, &mut frontier, shape_of(0, 3, 16, 16));
+    finish(&white, &mut frontier, below, Vec::new(alloc), RIGHT)?;
     assert!(rt; matches!(frontier.lease(), Take::Done));
     Ok(())
 }

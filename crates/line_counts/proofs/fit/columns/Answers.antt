@@ -27,8 +27,8 @@ pub loop-gutter-init : goal.loop-gutter-init
 loop-gutter-init c = record {
   order = omega arith;
   long = refl;
-  value = λ s less. zero_at 33 s;
-  few = λ s. omega (arith, zero_at 33 s);
+  value = λ s less. zero_at 73 s;
+  few = λ s. omega (arith, zero_at 73 s);
 }
 
 pub loop-gutter-preserved : goal.loop-gutter-preserved

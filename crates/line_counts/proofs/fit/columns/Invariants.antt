@@ -7,8 +7,8 @@ use Rattle.line_counts.proofs.fit.columns.Given as goal
 abbrev pub invariant-loop-gutter : goal.invariant-loop-gutter
 invariant-loop-gutter l = record {
   order : l.gutter-index ≤ l.gutter-index-end;
-  long : length l.columns ≡ 33;
-  value : (s : ℕ) → s < 33
+  long : length l.columns ≡ 73;
+  value : (s : ℕ) → s < 73
       → get_or l.columns s 0 ≡ count_by (λ gutter. is_crossed l.slope l.offset gutter && leb (segment_of l.gutters (middle_of gutter)) s) (take l.gutter-index l.gutters);
   few : (s : ℕ) → get_or l.columns s 0 ≤ l.gutter-index;
 }

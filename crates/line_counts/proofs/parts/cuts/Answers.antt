@@ -9,11 +9,11 @@ use Rattle.line_counts.proofs.Bounding.{columns_differ, is_cut}
 use Rattle.line_counts.proofs.parts.cuts.Goals as goal
 use Rattle.line_counts.proofs.parts.cuts.Goals.{then-crosses_all, else-crosses_all}
 
-no_cut : (s : ℕ) → get_or {A = Bool} (replicate {A = Bool} 33 false) s false ≡ false
+no_cut : (s : ℕ) → get_or {A = Bool} (replicate {A = Bool} 73 false) s false ≡ false
 no_cut s = ⊎_elim
-    (λ less. get_or-replicate 33 s false false less)
-    (λ more. get_or_past (replicate {A = Bool} 33 false) s false more)
-    (cases_lt s 33)
+    (λ less. get_or-replicate 73 s false false less)
+    (λ more. get_or_past (replicate {A = Bool} 73 false) s false more)
+    (cases_lt s 73)
 
 pub loop-gutter-init : goal.loop-gutter-init
 loop-gutter-init c = record {

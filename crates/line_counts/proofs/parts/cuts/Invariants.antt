@@ -5,6 +5,6 @@ use Rattle.line_counts.proofs.parts.cuts.Given as goal
 abbrev pub invariant-loop-gutter : goal.invariant-loop-gutter
 invariant-loop-gutter l = record {
   order : l.gutter-index ≤ l.gutter-index-end;
-  long : length l.cuts ≡ 33;
+  long : length l.cuts ≡ 73;
   cut : (segment : ℕ) → get_or l.cuts segment false ≡ true → IsCutBefore l.gutters l.stretch segment;
 }

@@ -1,12 +1,11 @@
-use Rattle.std.proofs.Common.{◌<◌, ℕ, List, length, get_or, take, arith, subst, sym}
+use Rattle.std.proofs.Common.{ℕ, List, get_or, take, arith, subst, sym}
 use Rattle.std.proofs.lemmas.List.{take_more, length-take}
-use Rattle.std.proofs.lemmas.List.Elements.{All-get_or}
 use Rattle.layout_geom.specs.declared.rect.Rect.{Rect}
 use Rattle.line_quality.specs.Points.{middle_of}
 use Rattle.line_counts.specs.Fits.{segment_of, place_of, slope_of}
 use Rattle.line_counts.specs.Table.{AreCounts}
 use Rattle.line_counts.proofs.Cells.{there, inside}
-use Rattle.line_counts.proofs.Counting.{counts_more, counts_small, reads}
+use Rattle.line_counts.proofs.Counting.{reads_next, counts_more, counts_small}
 use Rattle.line_counts.proofs.table.count_all.Goals as goal
 
 pub raise-requires-clause-room : goal.raise-requires-clause-room
@@ -16,8 +15,7 @@ raise-requires-clause-room c = λ number numbered.
     let gutters : List Rect = c.args.gutters.now in
     let positions : List ℕ = c.args.positions.now in
     let r : Rect = c.get.result.now in
-    let within : get_or positions i 0 < length boxes = All-get_or (λ (p : ℕ). p < length boxes) positions i 0 c.loop-position-test.true c.requires.within in
-    let read = reads boxes c.args.width (get_or positions i 0) r within c.requires.wide.1.feet c.get.ensures.item in
+    let read = reads_next boxes c.args.width positions i r c.loop-position-test.true c.requires.within c.requires.wide.1.feet c.get.ensures.item in
     omega (
       arith,
       c.loop-position-test.true,
@@ -33,7 +31,6 @@ loop-position-preserved c =
     let boxes : List Rect = c.args.boxes.now in
     let gutters : List Rect = c.args.gutters.now in
     let positions : List ℕ = c.args.positions.now in
-    let within : get_or positions i 0 < length boxes = All-get_or (λ (p : ℕ). p < length boxes) positions i 0 c.loop-position-test.true c.requires.within in
-    let read = reads boxes c.args.width (get_or positions i 0) c.get.result.now within c.requires.wide.1.feet c.get.ensures.item in
+    let read = reads_next boxes c.args.width positions i c.get.result.now c.loop-position-test.true c.requires.within c.requires.wide.1.feet c.get.ensures.item in
     subst (λ (xs : List ℕ). AreCounts boxes gutters c.args.width xs c.raise.new.cells) (sym (take_more positions i 0 c.loop-position-test.true))
     (counts_more boxes gutters c.args.width (take i positions) c.loop-position.cells c.raise.new.cells (get_or positions i 0) c.get.result.now read.at c.loop-position.invariant c.raise.ensures)

@@ -1,10 +1,9 @@
-use Rattle.std.proofs.Common.{◌+◌, ◌<◌, ◌++◌, ℕ, List, length, get_or, drop, subst}
+use Rattle.std.proofs.Common.{◌+◌, ◌++◌, ℕ, List, get_or, drop, subst}
 use Rattle.std.proofs.lemmas.List.{drop_all}
-use Rattle.std.proofs.lemmas.List.Elements.{All-get_or}
 use Rattle.layout_geom.specs.declared.rect.Rect.{Rect}
 use Rattle.line_counts.specs.Table.{AreCounts}
 use Rattle.line_counts.proofs.Cells.{there, inside}
-use Rattle.line_counts.proofs.Counting.{counts_less, counts_own, reads, next_first}
+use Rattle.line_counts.proofs.Counting.{reads_next, counts_less, counts_own, next_first}
 use Rattle.line_counts.proofs.table.lower_all.Goals as goal
 
 pub lower-requires-clause-some : goal.lower-requires-clause-some
@@ -15,8 +14,7 @@ lower-requires-clause-some c = λ number numbered.
     let members : List ℕ = c.args.members.now in
     let r : Rect = c.get.result.now in
     let others : List ℕ = c.requires.all.0 in
-    let within : get_or members i 0 < length boxes = All-get_or (λ (p : ℕ). p < length boxes) members i 0 c.loop-member-test.true c.requires.within in
-    let read = reads boxes c.args.width (get_or members i 0) r within c.requires.wide.1.feet c.get.ensures.item in
+    let read = reads_next boxes c.args.width members i r c.loop-member-test.true c.requires.within c.requires.wide.1.feet c.get.ensures.item in
     counts_own boxes gutters c.args.width (drop (i + 1) members ++ others) c.loop-member.cells (get_or members i 0) number r read.at numbered
     (there number gutters c.args.width r numbered read.wide) (inside number gutters c.args.width r numbered read.wide)
     (subst (λ (xs : List ℕ). AreCounts boxes gutters c.args.width xs c.loop-member.cells) (next_first members others i c.loop-member-test.true) (c.loop-member.invariant others c.requires.all.1))
@@ -27,8 +25,7 @@ loop-member-preserved c = λ others before.
     let boxes : List Rect = c.args.boxes.now in
     let gutters : List Rect = c.args.gutters.now in
     let members : List ℕ = c.args.members.now in
-    let within : get_or members i 0 < length boxes = All-get_or (λ (p : ℕ). p < length boxes) members i 0 c.loop-member-test.true c.requires.within in
-    let read = reads boxes c.args.width (get_or members i 0) c.get.result.now within c.requires.wide.1.feet c.get.ensures.item in
+    let read = reads_next boxes c.args.width members i c.get.result.now c.loop-member-test.true c.requires.within c.requires.wide.1.feet c.get.ensures.item in
     counts_less boxes gutters c.args.width (drop (i + 1) members ++ others) c.loop-member.cells c.lower.new.cells (get_or members i 0) c.get.result.now read.at
     (subst (λ (xs : List ℕ). AreCounts boxes gutters c.args.width xs c.loop-member.cells) (next_first members others i c.loop-member-test.true) (c.loop-member.invariant others before))
     c.lower.ensures

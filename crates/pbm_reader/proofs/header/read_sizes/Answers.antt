@@ -51,14 +51,13 @@ returns-in_default-next_state-clause-fault g c =
 
 pub returns-in-Whole-clause-header : goal.returns-in-Whole-clause-header
 returns-in-Whole-clause-header g c =
-    let inv = c.loop-at.invariant.reading in
     let middle = c.loop-at.feed.source in
     let new = c.next_byte.new.self.source in
     let took = some_of c.in_ok-byte.field-0 c.in-Some.byte (λ byte. Took middle new (byte ∷ [])) c.in-Some.is c.in_ok-byte.ensures.byte in
     let step : next_state c.loop-at.state c.in-Some.byte ≡ Some (Whole c.in-Whole.field-0 c.in-Whole.width c.in-Whole.height) =
     sym c.in-Some-next_state.ensures ∙ ap (λ (s : HeaderState). Some s) c.in-Whole.is in
     λ first named. header_taken first new c.args.form c.in-Whole.width c.in-Whole.height _ c.in_ok-size.size
-    (reading_whole first middle new c.args.form c.loop-at.at c.in-Some.byte c.loop-at.state c.in-Whole.field-0 c.in-Whole.width c.in-Whole.height (inv first named) took step (omega arith))
+    (reading_whole first middle new c.args.form c.loop-at.at c.in-Some.byte c.loop-at.state c.in-Whole.field-0 c.in-Whole.width c.in-Whole.height (c.loop-at.invariant.reading first named) took step (omega arith))
     c.in_ok-size.ensures.size
 
 pub returns-in_err-size-clause-fault : goal.returns-in_err-size-clause-fault

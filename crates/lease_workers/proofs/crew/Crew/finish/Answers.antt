@@ -1,21 +1,18 @@
 use Rattle.std.proofs.Common.{◌≡◌, sym, ap, ◌∙◌, subst, List, ℤ}
-use Rattle.frontier_turn.specs.Holding.{Replaces}
 use Rattle.split_frontier.specs.Views.{View}
 use Rattle.split_frontier.specs.Claims.{unspent}
 use Rattle.split_frontier.proofs.Working.{only_named_here, none_left}
 use Rattle.lease_workers.specs.Cutting.{IsCut}
 use Rattle.lease_workers.proofs.Cuts.{cut_of_parts}
-use Rattle.lease_workers.proofs.Turning.{named_again}
+use Rattle.lease_workers.proofs.Turning.{named_again, replaces_in_turn}
 use Rattle.lease_workers.proofs.crew.Crew.finish.Goals as goal
 
 pub finish-requires-clause-named : goal.finish-requires-clause-named
 finish-requires-clause-named g c κs within = only_named_here c.enter-turn.result.leases (λ home. unspent home c.args.lease) c.args.worker.now.own c.enter-turn.result.shard (c.enter-turn.ensures.leases ∙ c.requires.named) (c.enter-turn.ensures.shard ∙ c.pass_gate.ensures)
 
 pub finish-requires-clause-replaces : goal.finish-requires-clause-replaces
-finish-requires-clause-replaces g c κs within =
-    let S = g.S.Space in
-    let same : c.enter-turn.result.view.rest.problem ≡ c.args.self.now.shards.now.problem = ap (λ (v : View). v.rest.problem) c.enter-turn.ensures.view.1 ∙ c.requires.own.1 in
-    subst (λ (q : List ℤ). Replaces (S.admits q) (S.lies_in q) c.args.lease.node.shape c.args.parts.seen c.args.parts.nodes.items) (sym same) c.requires.replaces
+finish-requires-clause-replaces g c κs within = replaces_in_turn g.S.Space.admits g.S.Space.lies_in c.args.lease.node.shape c.args.parts.seen c.args.parts.nodes.items c.args.self.now.shards.now.problem _ _
+    c.enter-turn.ensures.view.1 c.requires.own.1 c.requires.replaces
 
 pub lease_worthy-take-requires-clause-unnamed : goal.lease_worthy-take-requires-clause-unnamed
 lease_worthy-take-requires-clause-unnamed g c κs within = none_left c.enter-turn.result.leases c.finish.new.self.leases (unspent c.args.worker.now.own c.args.lease) (unspent c.enter-turn.result.shard c.args.lease) (c.enter-turn.ensures.leases ∙ c.requires.named) c.in-Ok.ensures.names

@@ -1,58 +1,64 @@
-use Rattle.std.proofs.Common.{◌≡◌, ◌+◌, ◌<◌, ◌≤◌, ℕ, ℤ, ◌+ℤ◌, ◌≤ℤ◌, ◌<ℤ◌, pos, negsuc, to_z, of_z, w16, get_or, arith, sym, subst}
-use Rattle.std.proofs.lemmas.Int.{ints}
-use Rattle.line_counts.specs.Stretches.{IsKeyOf, IsKeyIn, IsGreaterKey}
-use Rattle.line_counts.proofs.Places.{held_slope}
-use Rattle.line_counts.proofs.Joining.{first_of, no_offset, offset_more, offset_all, begun_with, of_one}
-use Rattle.line_counts.proofs.Passing.{IsBeatenBelow, row_passed, top_passed}
+use Rattle.std.proofs.Common.{◌≡◌, ◌≤◌, ℕ, get_or, arith, sym, subst, ⊎_elim}
+use Rattle.std.proofs.lemmas.Bool.{cases_eq}
+use Rattle.line_counts.specs.Stretches.{IsKeyIn, IsRisen, IsBeaten}
+use Rattle.line_counts.specs.declared.stretch.Stretch.{Stretch}
+use Rattle.line_counts.specs.Table.{LivingPage}
+use Rattle.line_counts.proofs.Passing.{by_the_first, by_its_top, still_beaten, risen_on, not_risen}
 use Rattle.line_counts.proofs.counts.Counts.greatest_of.Goals as goal
 use Rattle.line_counts.proofs.counts.Counts.greatest_of.Goals.{then-top-enough, else-top-enough}
 
-held_first : (from : ℤ) (count height : ℕ) → negsuc 299 ≤ℤ from → (from +ℤ pos count) ≤ℤ pos (height + 300 + 1) → height ≤ 8192 → to_z w16 (of_z w16 from) ≡ from
-held_first from count height low high page = omega (arith, ints)
-
-no_less : (from : ℤ) (more : ℕ) → from ≤ℤ (from +ℤ pos more)
-no_less from more = omega (arith, ints)
-
-before_end : (from : ℤ) (more count : ℕ) → more < count → (from +ℤ pos more) <ℤ (from +ℤ pos count)
-before_end from more count less = omega (arith, ints)
-
-pub returns-then-not-may_beat : goal.returns-then-not-may_beat
-returns-then-not-may_beat c =
-    let row = c.args.row.now in
-    row_passed c.args.self.now row c.args.least c.args.before c.greatest_of_first-most.result c.requires.alive c.requires.of_page.low c.requires.row
-    (λ more score k less scored. omega (arith, c.requires.tops.over more score k less scored, c.greatest_of_first-most.ensures more less))
-    (subst (λ (o : ℤ). IsBeatenBelow row.slope o row.deepest c.args.least c.greatest_of_first-most.result c.args.before)
-    (held_first row.from row.offsets c.args.self.now.height c.requires.of_page.low c.requires.of_page.high c.requires.of_page.page)
-    (subst (λ (s : ℤ). IsBeatenBelow s (to_z w16 (of_z w16 row.from)) row.deepest c.args.least c.greatest_of_first-most.result c.args.before) (held_slope row.slope c.requires.of_page.slope_in)
-    (c.may_beat.ensures c.if-not-may_beat.true)))
+pub returns-then-not-may_beat-clause-beaten : goal.returns-then-not-may_beat-clause-beaten
+returns-then-not-may_beat-clause-beaten c = λ more less.
+    by_the_first c.args.self.now c.args.least c.args.before c.greatest_of_first-most.result (get_or c.args.tops.now more 0) c.args.stretch.now more c.args.depth c.requires.alive c.requires.of_page
+    (c.greatest_of_first-most.ensures more less) (c.may_beat.ensures c.if-not-may_beat.true)
 
 pub loop-more-init : goal.loop-more-init
-loop-more-init c = no_offset c.args.self.now c.args.least c.args.row.now c.better-best.result
+loop-more-init c = record {
+  risen = not_risen (IsKeyIn c.args.self.now c.args.least c.args.stretch.now) c.better-best.result;
+  beaten = λ k less. absurd (omega (arith, less));
+}
+
+-- one line more is beaten
+record IsNext (page : LivingPage) (least ago best word : ℕ) (stretch : Stretch) (more depth top : ℕ) : Type 0 where
+  pub risen : IsRisen (IsKeyIn page least stretch) ago word
+  pub rose : best ≤ word
+  pub beaten : IsBeaten page least stretch more depth top word
 
 pub loop-more-preserved : goal.loop-more-preserved
 loop-more-preserved c =
-    let page = c.args.self.now in
-    let row = c.args.row.now in
+    let page : LivingPage = c.args.self.now in
+    let stretch : Stretch = c.args.stretch.now in
     let more = c.loop-more.more in
+    let depth = c.args.depth in
+    let least = c.args.least in
+    let ago = c.better-best.result in
+    let best = c.loop-more.best in
+    let word = c.if-top-enough.best in
+    let top : ℕ = get_or c.args.tops.now more 0 in
+    let held : IsRisen (IsKeyIn page least stretch) ago best = c.loop-more.invariant.risen in
+    let next : IsNext page least ago best word stretch more depth top =
     elim c.if-top-enough.branch [
-      | then-top-enough w ↦
-          subst (λ (key : ℕ). IsGreaterKey (IsKeyIn page c.args.least (first_of row (more + 1))) c.better-best.result key) (sym w.best-is)
-          (offset_more page c.args.least row more c.better-best.result c.loop-more.best w.better-best-then-top-enough.result c.loop-more.invariant w.better-best-then-top-enough.ensures)
-      | else-top-enough w ↦
-          subst (λ (key : ℕ). IsGreaterKey (IsKeyIn page c.args.least (first_of row (more + 1))) c.better-best.result key) (sym w.best-is)
-          (offset_more page c.args.least row more c.better-best.result c.loop-more.best c.loop-more.best c.loop-more.invariant
-          (of_one page c.args.least row.slope (row.from +ℤ pos more) row.shallowest row.deepest c.loop-more.best c.loop-more.best c.requires.row
-          (top_passed page c.args.least c.better-best.result c.loop-more.best (get_or c.args.tops.now more 0) c.needed-enough.result row.slope (row.from +ℤ pos more) row.deepest c.needed-enough.ensures c.loop-more.invariant.no_less
-          w.if-top-enough.false
-          (λ score k scored. c.requires.tops.over more score k c.loop-more-test.true scored))))
-    ]
+      | then-top-enough w ↦ subst (λ (key : ℕ). IsNext page least ago best key stretch more depth top) (sym w.best-is) (record {
+        risen = risen_on (IsKeyIn page least stretch) ago best w.better-best-then-top-enough.result held w.better-best-then-top-enough.ensures.risen;
+        rose = w.better-best-then-top-enough.ensures.risen.no_less;
+        beaten = w.better-best-then-top-enough.ensures.beaten;
+      })
+      | else-top-enough w ↦ subst (λ (key : ℕ). IsNext page least ago best key stretch more depth top) (sym w.best-is) (record {
+        risen = held;
+        rose = omega arith;
+        beaten = by_its_top page least ago best top c.needed-enough.result stretch more depth c.needed-enough.ensures held.no_less w.if-top-enough.false;
+      })
+    ] in
+    record {
+      risen = next.risen;
+      beaten = λ k less. ⊎_elim
+          (λ (same : k ≡ more). subst (λ (n : ℕ). IsBeaten page least stretch n depth (get_or c.args.tops.now n 0) word) (sym same) next.beaten)
+          (λ differs. still_beaten page least best word (get_or c.args.tops.now k 0) stretch k depth next.rose (c.loop-more.invariant.beaten k (omega (arith, less, differs))))
+          (cases_eq k more);
+    }
 
 pub returns : goal.returns
-returns c =
-    let page = c.args.self.now in
-    let row = c.args.row.now in
-    let first : ℕ = c.likeliest-first.result in
-    begun_with (IsKeyOf page c.args.least row.slope (row.from +ℤ pos first) row.shallowest row.deepest) (IsKeyIn page c.args.least row) c.args.before c.better-best.result c.loop-more.best
-    (λ k of. record { offset = row.from +ℤ pos first; from_offset = no_less row.from first; to_offset = before_end row.from first row.offsets c.likeliest-first.ensures; of = of })
-    c.better-best.ensures
-    (offset_all page c.args.least row c.loop-more.more c.better-best.result c.loop-more.best (omega (arith, c.loop-more-test.false, c.loop-more.auto.more-end)) c.loop-more.invariant)
+returns c = record {
+  risen = risen_on (IsKeyIn c.args.self.now c.args.least c.args.stretch.now) c.args.before c.better-best.result c.loop-more.best c.better-best.ensures.risen c.loop-more.invariant.risen;
+  beaten = λ more less. c.loop-more.invariant.beaten more (omega (arith, less, c.loop-more-test.false));
+}

@@ -14,7 +14,7 @@ pub returns-then-score-least : goal.returns-then-score-least
 returns-then-score-least c =
     let page : LivingPage = c.args.self.now in
     let value : c.plain_score-score.result ≡ sum_by (λ position. plain_weight (lines_of c.args.slope c.args.from 1 c.more_rows.result) (slice_get page.boxes position)) page.alive =
-    rw (to_z-of_z w8 c.args.slope c.ranges.slope, to_z-of_z w16 c.args.from c.ranges.from) at c.plain_score-score.ensures.value in
+    rw (to_z-of_z w8 c.args.slope c.ranges.slope, to_z-of_z w16 c.args.from c.ranges.from) at c.plain_score-score.ensures.value (omega (arith, c.plain_score-score.ensures.small)) in
     plain_none page c.args.least c.args.slope c.args.from c.args.offsets c.args.deepest c.more_rows.result c.plain_score-score.result c.requires.slope c.requires.low c.more_rows.ensures value c.if-score-least.true
 
 in_grid : (from : ℤ) (offsets height : ℕ) → height ≤ 8192 → negsuc 299 ≤ℤ from → (from +ℤ pos offsets) ≤ℤ pos (height + 300 + 1) → 0 < offsets → IsOffset from
@@ -29,7 +29,7 @@ pub returns : goal.returns
 returns c =
     let page : LivingPage = c.args.self.now in
     let value : c.plain_score-score.result ≡ sum_by (λ position. plain_weight (lines_of c.args.slope c.args.from 1 c.more_rows.result) (slice_get page.boxes position)) page.alive =
-    rw (to_z-of_z w8 c.args.slope c.ranges.slope, to_z-of_z w16 c.args.from c.ranges.from) at c.plain_score-score.ensures.value in
+    rw (to_z-of_z w8 c.args.slope c.ranges.slope, to_z-of_z w16 c.args.from c.ranges.from) at c.plain_score-score.ensures.value (omega (arith, c.plain_score-score.ensures.small)) in
     let is : c.line_key.result ≡ line_key c.plain_score-score.result c.args.slope c.args.from 0 =
     rw (to_z-of_z w8 c.args.slope c.ranges.slope, to_z-of_z w16 c.args.from c.ranges.from) at c.line_key.ensures.value in
     plain_is page c.args.least c.args.slope c.args.from c.args.offsets c.args.deepest c.more_rows.result c.plain_score-score.result c.line_key.result c.requires.slope c.requires.low c.more_rows.ensures value is

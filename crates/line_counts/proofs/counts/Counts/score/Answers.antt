@@ -12,7 +12,7 @@ use Rattle.line_counts.proofs.counts.Counts.score.Goals as goal
 pub loop-of_segment-init : goal.loop-of_segment-init
 loop-of_segment-init c = record {
   long = refl;
-  sums = λ in_column. zero_at 33 in_column
+  sums = λ in_column. zero_at 73 in_column
       ∙ sym (column_none c.args.self.now.boxes c.args.self.now.gutters (to_z w8 (of_z w8 c.args.slope)) (to_z w16 (of_z w16 c.args.offset)) c.args.depth in_column c.args.self.now.alive);
 }
 

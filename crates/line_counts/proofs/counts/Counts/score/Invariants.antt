@@ -4,6 +4,6 @@ use Rattle.line_counts.proofs.counts.Counts.score.Given as goal
 
 abbrev pub invariant-loop-of_segment : goal.invariant-loop-of_segment
 invariant-loop-of_segment l = record {
-  long : length l.sums ≡ 33;
+  long : length l.sums ≡ 73;
   sums : (in_column : ℕ) → get_or l.sums in_column 0 ≡ column_weight l.self.boxes l.self.gutters l.slope l.offset l.depth l.of_segment in_column l.self.alive;
 }

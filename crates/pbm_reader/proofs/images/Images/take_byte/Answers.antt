@@ -22,12 +22,11 @@ returns-clause-err g c =
     let source = g.S.Source.view c.args.src.now in
     let later = g.S.Source.view c.next_byte.new.src in
     let last = c.next_byte.new.self in
-    let n = c.next_byte.ensures in
     on_err_map c.next_byte.result (Took (whole c.limit.new.self source) (whole last later) []) (coming c.args.self.now source ≡ prepend_known last.unread later.left)
     (λ took.
-    held_coming _ c.args.self.now c.limit.new.self last _ source later [] c.self.view_is c.limit.ensures.unread c.limit.ensures.room n.limited took n.unseen
+    held_coming _ c.args.self.now c.limit.new.self last _ source later [] c.self.view_is c.limit.ensures.unread c.limit.ensures.room c.next_byte.ensures.limited took c.next_byte.ensures.unseen
     ∙ sym (prepend_nothing (prepend_known last.unread later.left)))
-    n.err
+    c.next_byte.ensures.err
 
 pub returns-clause-none : goal.returns-clause-none
 returns-clause-none g c =

@@ -1,5 +1,5 @@
 use Rattle.std.proofs.Common.{◌<◌, ◌≤◌}
-use Rattle.line_counts.proofs.greatest.alike.Given as goal
+use Rattle.line_counts.proofs.pieces.alike.Given as goal
 
 abbrev pub invariant-loop-gutter : goal.invariant-loop-gutter
 invariant-loop-gutter l = record {

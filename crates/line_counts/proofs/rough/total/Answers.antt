@@ -1,7 +1,7 @@
 use Rattle.std.proofs.Common.{◌≡◌, get_or, arith, ap, ◌∙◌}
 use Rattle.line_counts.specs.Tops.{sum_to}
 use Rattle.line_counts.proofs.Summing.{to_next}
-use Rattle.line_counts.proofs.greatest.total.Goals as goal
+use Rattle.line_counts.proofs.rough.total.Goals as goal
 
 pub loop-place-preserved : goal.loop-place-preserved
 loop-place-preserved c = record {
