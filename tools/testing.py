@@ -42,6 +42,9 @@ def missing(need):
         return None if shutil.which(need) and opens() else "no chromium that starts"
     if need == "leptonica":
         return None if ctypes.util.find_library("lept") else "libleptonica-dev is not installed"
+    if need.startswith("tesseract-ocr-"):
+        listed = shutil.which("tesseract") and subprocess.run(["tesseract", "--list-langs"], capture_output=True, text=True, check=False).stdout
+        return None if need.removeprefix("tesseract-ocr-") in (listed or "").split() else f"{need} is not installed"
     if need == "ocrmypdf":
         return None if importlib.util.find_spec(need) else "ocrmypdf is not installed"
     return None if shutil.which(need) else f"{need} is not installed"

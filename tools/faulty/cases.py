@@ -36,7 +36,7 @@ class Case:
 
 def known_cases(short):
     """Pages with documents that were worked out by hand."""
-    wanted = ("three glyphs",) if short else ("three glyphs", "two columns", "comments")
+    wanted = ("three glyphs",) if short else ("three glyphs", "two columns", "comments", "two words")
     return [Case(name, words, given, [text]) for name, words, given, text in PROGRAMS.DOCUMENTS if name in wanted]
 
 
@@ -65,9 +65,13 @@ def many_cases():
 
 
 def large_cases(command):
-    """A page of print, whose document is that of a run without a fault, and a made one."""
+    """A page of print, with and without its words, whose document is that of a run without a fault, and a made one."""
     with gzip.open(os.path.join(TOP, "examples", "article.pbm.gz")) as file:
         article = file.read()
-    done = subprocess.run(command, input=article, capture_output=True, timeout=PATIENCE, check=True)
+
+    def whole(name, words):
+        done = subprocess.run([*command, *words], input=article, capture_output=True, timeout=PATIENCE, check=True)
+        return Case(name, words, article, [done.stdout])
+
     made = [Case(name, words, b"", [text]) for name, words, text in PROGRAMS.SUMMARIES if name == "seed 7"]
-    return [Case("article", [], article, [done.stdout]), *made]
+    return [whole("article", []), whole("words of the article", ["--words"]), *made]

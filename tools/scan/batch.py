@@ -13,7 +13,7 @@ from dataclasses import dataclass, replace
 from .files import write_whole
 from .inputs import files_in, plain_page, sources_of
 from .leptonica import NoLibrary
-from .machines import layouts, see_to
+from .machines import layouts, options_of, see_to
 from .trouble import Trouble, advice, words_of_status
 
 MOST_TOLD = 100  # pages that the list at the end names
@@ -176,13 +176,10 @@ class Batch:
             raise Trouble(lines[-1].removeprefix("prepare: ").removeprefix(f"{page.source.file}: "))
         return out.decode(errors="replace").strip()
 
-    def options(self):
-        return [] if self.plan.rects is None else ["--rects", str(self.plan.rects)]
-
     def laid_out(self, page):
         """The page's document; raises Trouble."""
         with open(page.file("pbm"), "rb") as file:
-            status, out, err = self.child([self.program, *self.options()], file)
+            status, out, err = self.child([self.program, *options_of(self.plan)], file)
         if status != 0:
             raise Trouble(advice(status, err.decode(errors="replace").strip()))
         return out

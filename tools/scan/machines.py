@@ -59,14 +59,18 @@ def answer_in(file):
     return told
 
 
+def options_of(plan):
+    """The words for layout1 by the plan."""
+    return [*([] if plan.rects is None else ["--rects", str(plan.rects)]), *(["--words"] if plan.words else [])]
+
+
 def layouts(pages, program, plan):
     """For each prepared page, by its PBM file, the document or the Trouble, one after another when all machines are done.
 
     The machines have the pages under names that no other file has there, in a folder of their own that goes when they are done. This one
     takes the program that is named; the others take what is on their path."""
-    options = "" if plan.rects is None else f"--rects {plan.rects}"
     folder, shows = plan.output, not plan.quiet and sys.stderr.isatty()
-    words = [*words_of(plan.sshlogin, plan.jobs, shows), COMMAND.format(options=options)]
+    words = [*words_of(plan.sshlogin, plan.jobs, shows), COMMAND.format(options=" ".join(options_of(plan)))]
     path = os.path.dirname(os.path.abspath(program)) + os.pathsep + os.environ.get("PATH", os.defpath)
     environment = {**os.environ, "PATH": path, "PARALLEL_SHELL": "/bin/sh"}  # the command is sh's, whatever shell its user has
     with tempfile.TemporaryDirectory(prefix=".part-", dir=folder) as inside:
