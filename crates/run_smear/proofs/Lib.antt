@@ -1,0 +1,6 @@
+-- Lemmas on painted rows, on fills and on swept columns.
+pub mod Blackening
+pub mod RowSmear
+pub mod Filling
+pub mod Sweeping
+pub mod Bands

@@ -1,0 +1,5 @@
+-- The run-length smear of a page, and what a sweep over its rows knows of its columns.
+pub mod Smear
+pub mod Painted
+pub mod Columns
+pub mod Ready
