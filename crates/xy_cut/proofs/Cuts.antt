@@ -1,5 +1,5 @@
 -- Cells from what the code knows of a cut.
-use Rattle.std.proofs.Common.{◌≡◌, ℕ, ◌<◌, ◌≤◌, ◌⊎◌, ◌↔◌, ◌∙◌, Bool, false, IsTrue, refl, List, [], ◌∷◌, ◌++◌, Option, Some, None, All, length, arith, sym, subst, inl, inr}
+use Rattle.std.proofs.Common.{◌≡◌, ℕ, ◌<◌, ◌↔◌, ◌∙◌, Bool, false, IsTrue, refl, List, [], ◌∷◌, ◌++◌, Option, Some, None, All, length, arith, sym, subst, inr}
 use Rattle.std.proofs.lemmas.Bool.{false≢true}
 use Rattle.std.proofs.lemmas.List.Elements.{All-filter}
 use Rattle.layout_geom.specs.declared.rect.Rect.{Rect}
@@ -8,7 +8,7 @@ use Rattle.xy_cut.specs.declared.cell.Cell.{Cell}
 use Rattle.xy_cut.specs.declared.cell.Side.{Side}
 use Rattle.xy_cut.specs.declared.cell.Side.TheVariants.{Before, After}
 use Rattle.xy_cut.specs.declared.cell.TheConstants.{MAX_CUTS}
-use Rattle.xy_cut.specs.Bands.{IsBand, is_on, part_of}
+use Rattle.xy_cut.specs.Bands.{is_on, part_of}
 use Rattle.xy_cut.specs.Widest.{IsBestOf}
 use Rattle.xy_cut.specs.Cells.{IsCellOf, AreWhole, IsCut, IsUncut, IsCutOf, AreCells, Parted}
 

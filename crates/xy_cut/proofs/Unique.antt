@@ -1,5 +1,5 @@
 -- Boxes have one list of cells.
-use Rattle.std.proofs.Common.{◌≡◌, ℕ, ◌+◌, ◌<◌, ◌≤◌, List, [], ◌∷◌, ◌++◌, length, arith, refl, sym, ap, subst, inl, inr, ⊎_elim, ◌∙◌, All}
+use Rattle.std.proofs.Common.{◌≡◌, ℕ, ◌≤◌, List, [], ◌∷◌, ◌++◌, arith, refl, sym, ap, subst, inl, inr, ⊎_elim, ◌∙◌, All}
 use Rattle.std.proofs.lemmas.Bool.{cases_lt}
 use Rattle.layout_geom.specs.declared.rect.Rect.{Rect}
 use Rattle.layout_geom.specs.Rectangles.{Encloses}

@@ -1,10 +1,10 @@
 //! Cells of boxes that were written down by hand.
-ghost use Rattle.std.specs.Prelude.{IsTrue, ◌↔◌, All};
+ghost use Rattle.std.specs.Prelude.{IfOk, All};
+ghost use Rattle.layout_geom.specs.declared.rect.Rect.{Rect};
 ghost use Rattle.layout_geom.specs.Rectangles.{Encloses};
 
 use crate::{Cell, Cells, MAX_CUTS, Side, cells, cells_alone, cells_are_unique};
 use layout_geom::{Rect, Rects};
-use layout_limits::OutOfMemory;
 use std::alloc::Global;
 use std::process::Abort;
 use std::test::Fail;
@@ -182,36 +182,30 @@ const CASES: [Case; 11] = [
     },
 ];
 
-/// The rectangles of these sides.
-fn rects(alloc: Global, sides: &[[u16; 4]]) -> Result<Rects, OutOfMemory> {
-    let mut rects = Rects::new(alloc);
-    for [x0, y0, x1, y1] in sides {
-        if let Some(rect) = Rect::new(*x0, *y0, *x1, *y1) {
-            rects.push(rect)?;
-        }
-    }
-    Ok(rects)
-}
-
-/// Whether a rectangle contains each box.
-fn contains_all(outer: &Rect, boxes: &Rects) -> bool
-    ensures { IsTrue result ↔ All (Encloses outer.now) boxes.now }
+/// Boxes of these sides, on a page.
+fn boxes_of(rt: &impl Abort, alloc: Global, sides: &[[u16; 4]]) -> Result<Rects, Fail>
+    ensures { IfOk result (λ boxes. (outer : Rect) × All (Encloses outer) boxes) }
 {
-    boxes.as_slice().iter().all(|rect| outer.contains(rect))
+    let page = Rect::new(0, 0, 8192, 4096).expect(rt, "a page");
+    let mut boxes = Rects::new(alloc);
+    for [x0, y0, x1, y1] in sides {
+        let rect = Rect::new(*x0, *y0, *x1, *y1).expect(rt, "a box");
+        assert!(rt; page.contains(&rect));
+        boxes.push(rect)?;
+    }
+    Ok(boxes)
 }
 
-/// The cells of boxes by either call, after a look that the calls have what they ask for.
+/// The cells of boxes by either call.
 fn both<R: Threads + Abort + Sync>(
     rt: &R,
     alloc: Global,
-    boxes: &Rects,
+    sides: &[[u16; 4]],
     t: u16,
 ) -> Result<[Cells; 2], Fail> {
-    let page = Rect::new(0, 0, 8192, 4096).expect(rt, "a page");
-    if t == 0 || !contains_all(&page, boxes) {
-        return Err("a box is outside of the page")?;
-    }
-    Ok([cells_alone(alloc, boxes, t)?, cells(rt, alloc, boxes, t)?])
+    assert!(rt; 1 <= t);
+    let boxes = boxes_of(rt, alloc, sides)?;
+    Ok([cells_alone(alloc, &boxes, t)?, cells(rt, alloc, &boxes, t)?])
 }
 
 /// Whether a cell has this path, so many boxes and this box.
@@ -230,8 +224,7 @@ fn is_cell(cell: &Cell, wanted: &Wanted<'_>) -> bool {
 #[test]
 fn boxes_have_the_cells_of_the_cases(rt: HostRuntime) -> Result<(), Fail> {
     for case in &CASES {
-        let boxes = rects(rt.alloc(), case.boxes)?;
-        for cells in both(&rt, rt.alloc(), &boxes, case.t)? {
+        for cells in both(&rt, rt.alloc(), case.boxes, case.t)? {
             let cells = cells.into_vec();
             assert!(rt; cells.len() == case.cells.len(), "{}", case.name);
             let same = cells
@@ -244,43 +237,55 @@ fn boxes_have_the_cells_of_the_cases(rt: HostRuntime) -> Result<(), Fail> {
     Ok(())
 }
 
-/// Each box lies two columns and two rows behind the one before it, and all the cuts there may be part off one.
-#[test]
-fn a_staircase_of_70_boxes_has_65_cells(rt: HostRuntime) -> Result<(), Fail> {
-    let mut boxes = Rects::new(rt.alloc());
-    for step in 0u16..70 {
-        let at = 3 * step;
-        let rect = Rect::new(at, at, at + 1, at + 1).expect(&rt, "a pixel");
-        boxes.push(rect)?;
-    }
-    for cells in both(&rt, rt.alloc(), &boxes, 2)? {
-        assert_eq!(rt; cells.len(), MAX_CUTS + 1);
-        for (place, cell) in cells.as_slice().iter().enumerate() {
-            let cuts = if place < MAX_CUTS { place + 1 } else { place };
-            assert_eq!(rt; cell.path.len(), cuts);
-            assert_eq!(rt; cell.count, if place < MAX_CUTS { 1 } else { 6 });
-        }
+/// Looks that boxes have so many cells by either call, and the last of them so many boxes behind as many cuts as there may be.
+fn ends_with<R: Threads + Abort + Sync>(
+    rt: &R,
+    alloc: Global,
+    sides: &[[u16; 4]],
+    t: u16,
+    (number, last): (usize, u32),
+) -> Result<(), Fail> {
+    for cells in both(rt, alloc, sides, t)? {
+        let cells = cells.into_vec();
+        assert_eq!(rt; cells.len(), number);
+        let cell = cells.last().ok_or("no cell")?;
+        assert_eq!(rt; (cell.path.len(), cell.count), (MAX_CUTS, last));
     }
     Ok(())
+}
+
+/// Each box lies two columns and two rows behind the one before it, and each cut parts off one.
+#[test]
+fn a_staircase_of_70_boxes_has_65_cells(rt: HostRuntime) -> Result<(), Fail> {
+    let mut sides = Vec::new(rt.alloc());
+    for step in 0u16..70 {
+        sides.push([3 * step, 3 * step, 3 * step + 1, 3 * step + 1])?;
+    }
+    ends_with(&rt, rt.alloc(), &sides, 2, (65, 6))
+}
+
+/// In each of 4000 places 15 equal boxes, which a cut parts off together.
+#[test]
+fn a_row_of_60_000_boxes_has_65_cells(rt: HostRuntime) -> Result<(), Fail> {
+    let mut sides = Vec::new(rt.alloc());
+    for number in 0u16..60_000 {
+        let x0 = number % 4000 * 2;
+        sides.push([x0, 0, x0 + 1, 9])?;
+    }
+    ends_with(&rt, rt.alloc(), &sides, 1, (65, 59_040))
 }
 
 /// Rows of 300 boxes with a white row behind each: 64 rows are cut off, the first by one cut, and what is left of its 64
 /// cuts parts off a box each.
 #[test]
 fn a_grid_of_60_000_boxes_has_2081_cells(rt: HostRuntime) -> Result<(), Fail> {
-    let mut boxes = Rects::new(rt.alloc());
+    let mut sides = Vec::new(rt.alloc());
     for number in 0u16..60_000 {
         let x0 = number % 300 * 2;
         let y0 = number / 300 * 2;
-        let rect = Rect::new(x0, y0, x0 + 1, y0 + 1).expect(&rt, "a pixel");
-        boxes.push(rect)?;
+        sides.push([x0, y0, x0 + 1, y0 + 1])?;
     }
-    for cells in both(&rt, rt.alloc(), &boxes, 1)? {
-        assert_eq!(rt; cells.len(), 2081);
-        let last = cells.get(2080);
-        assert_eq!(rt; (last.path.len(), last.count), (MAX_CUTS, 40_800));
-    }
-    Ok(())
+    ends_with(&rt, rt.alloc(), &sides, 1, (2081, 40_800))
 }
 
 #[test]

@@ -1,8 +1,7 @@
-use Rattle.std.proofs.Common.{◌≡◌, ◌++◌, [], ◌∷◌, ◌+◌, length, IfOk, All, arith, ap, subst}
+use Rattle.std.proofs.Common.{◌≡◌, ◌++◌, length, arith, ap, subst}
 use Rattle.std.proofs.lemmas.List.{length_push}
 use Rattle.std.proofs.lemmas.Result.{IfOk-weaker}
 use Rattle.std.proofs.Common.{List}
-use Rattle.layout_geom.specs.declared.rect.Rect.{Rect}
 use Rattle.layout_geom.specs.Rectangles.{Encloses}
 use Rattle.xy_cut.specs.declared.cell.Cell.{Cell}
 use Rattle.xy_cut.specs.declared.cell.Side.TheVariants.{Before, After}

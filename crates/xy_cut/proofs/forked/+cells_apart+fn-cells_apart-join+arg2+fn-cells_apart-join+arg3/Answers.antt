@@ -1,7 +1,6 @@
-use Rattle.std.proofs.Common.{◌≡◌, ◌++◌, [], ◌∷◌, ◌+◌, length, IfOk, All, List, arith, rules, ap, subst}
+use Rattle.std.proofs.Common.{◌≡◌, ◌++◌, length, IfOk, List, arith, rules, ap, subst}
 use Rattle.std.proofs.lemmas.List.{length_push}
 use Rattle.std.proofs.lemmas.Result.{IfOk-weaker, IfOk-at_ok}
-use Rattle.layout_geom.specs.declared.rect.Rect.{Rect}
 use Rattle.layout_geom.specs.Rectangles.{Encloses}
 use Rattle.xy_cut.specs.declared.cell.Cell.{Cell}
 use Rattle.xy_cut.specs.declared.cell.Side.TheVariants.{Before, After}

@@ -1,4 +1,4 @@
-use Rattle.std.proofs.Common.{◌≡◌, ◌<◌, List, [], ◌∷◌, All, length, sym, subst, refl, ap, arith, ◌∙◌}
+use Rattle.std.proofs.Common.{◌<◌, List, All, length, sym, subst, refl}
 use Rattle.layout_geom.specs.declared.rect.Rect.{Rect}
 use Rattle.layout_geom.specs.Rectangles.{Encloses}
 use Rattle.xy_cut.specs.declared.cell.Cell.{Cell}
