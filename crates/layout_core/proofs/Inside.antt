@@ -53,7 +53,7 @@ module _ (page : Page) (whole : Rect) (sides : HasSides whole 0 0 page.width pag
   kept_inside boxes list = All-permutation (Encloses whole) list.found boxes list.rearranged (found_inside list.is_kept.places list.found list.is_kept.are_kept.kept)
 
 -- a rectangle that has all boxes inside is round those at any positions
-round_all : (boxes : List Rect) (whole : Rect) (positions : List ℕ) → All (Encloses whole) boxes → IsRound boxes positions whole
+pub round_all : (boxes : List Rect) (whole : Rect) (positions : List ℕ) → All (Encloses whole) boxes → IsRound boxes positions whole
 round_all boxes whole positions all k d within = at (get_or positions k d)
   where
     at : (position : ℕ) → IfSome (slice_get boxes position) (λ box. Encloses whole box)
@@ -77,7 +77,7 @@ module _ (boxes gutters : List Rect) (height median : ℕ) (whole : Rect) (all :
       rw is.shown
       (All-map (Encloses whole) box_of (map mark_of is.numbered)
       (All-map (λ (mark : Mark). Encloses whole mark.bbox) mark_of is.numbered
-      (All-permutation (λ (line : Line). Encloses whole line.bbox) lines is.numbered is.rearranged (lines_inside alive lines list))))
+      (All-permutation (λ (line : Line). Encloses whole line.bbox) lines is.numbered is.in_order.rearranged (lines_inside alive lines list))))
 
 module _ (boxes gutters : List Rect) (height median : ℕ) (high : height ≤ 8192) where
   line_mark : (alive : List ℕ) (line : Line) → IsBestLine boxes gutters height median alive line → IsMark (mark_of line)
@@ -93,4 +93,4 @@ module _ (boxes gutters : List Rect) (height median : ℕ) (high : height ≤ 81
   -- the numbered lines are of the grid
   pub numbered_on_grid : (alive : List ℕ) (lines : List Line) (marks : List Mark) → IsLineList boxes gutters height median alive lines → IsNumbered lines marks → All IsMark marks
   numbered_on_grid alive lines marks list is =
-      rw is.shown (All-map IsMark mark_of is.numbered (All-permutation (λ (line : Line). IsMark (mark_of line)) lines is.numbered is.rearranged (lines_on_grid alive lines list)))
+      rw is.shown (All-map IsMark mark_of is.numbered (All-permutation (λ (line : Line). IsMark (mark_of line)) lines is.numbered is.in_order.rearranged (lines_on_grid alive lines list)))

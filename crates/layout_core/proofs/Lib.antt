@@ -5,6 +5,7 @@ pub mod Owing
 pub mod Pages
 pub mod Rising
 pub mod Inside
+pub mod Members
 pub mod Wholes
 pub mod Planning
 pub mod Stable

@@ -1,20 +1,20 @@
 -- One refusal is owed to an input, and none to an input that spells pages of few components.
-use Rattle.std.proofs.Common.{◌≡◌, ◌⊎◌, ◌<◌, ◌≤◌, ◌+◌, ℕ, List, [], ◌∷◌, ◌++◌, length, refl, sym, ◌∙◌, ap, subst, inl, inr, arith, append_assoc, length-append}
+use Rattle.std.proofs.Common.{◌≡◌, ◌<◌, ℕ, List, [], ◌∷◌, ◌++◌, length, refl, sym, ◌∙◌, ap, subst, inl, inr, arith, append_assoc, length-append}
 use Rattle.std.specs.Prelude.{All}
 use Rattle.std.proofs.lemmas.List.{append-nil}
-use Rattle.std.proofs.lemmas.List.Elements.{All-nil, All-cons, All-head, All-tail}
+use Rattle.std.proofs.lemmas.List.Elements.{All-nil, All-head, All-tail}
 use Rattle.pbm_reader.specs.declared.fault.PageFault.{PageFault}
 use Rattle.pbm_reader.specs.declared.form.Form.TheVariants.{Plain, Raw}
 use Rattle.pbm_reader.specs.Page.{Page}
-use Rattle.pbm_reader.specs.Spelling.{Spells, magic}
+use Rattle.pbm_reader.specs.Spelling.{magic}
 use Rattle.pbm_reader.specs.Fault.{Begins}
 use Rattle.pbm_reader.specs.Images.{SpellsIn, AreImages, SpellsPages, HasPagesFault}
-use Rattle.pbm_reader.specs.Reader.{WereImages, IsNextImage, DecidesNoFault}
+use Rattle.pbm_reader.specs.Reader.{IsNextImage, DecidesNoFault}
 use Rattle.components.specs.Kept.{KeptIsUnique}
 use Rattle.layout_core.specs.declared.refusal.Refusal.{Refusal}
 use Rattle.layout_core.specs.declared.refusal.Refusal.TheVariants as refusals
 use Rattle.layout_core.specs.Layouts.{HasFewComponents, HasTooMany}
-use Rattle.layout_core.specs.Owed.{StandInFront, OwesFault, ImageHasTooMany, PlainHasTooMany, Owes, DecidesNoRefusal}
+use Rattle.layout_core.specs.Owed.{StandInFront, ImageHasTooMany, PlainHasTooMany, Owes, DecidesNoRefusal}
 use Rattle.layout_core.proofs.Components.{SpellsOne, few_or_many, one_number}
 use Rattle.layout_core.proofs.Fronts.{all_front, all_last, form_begins, begins_more, one_name, images_begin, PageOrFault, OneImage, one_image, FollowsThese, one_cut}
 

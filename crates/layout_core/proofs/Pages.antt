@@ -7,14 +7,13 @@ use Rattle.std.proofs.lemmas.List.Elements.{All-nil, All-cons}
 use Rattle.std.specs.Io.KnownBytes.{prepend_known, IsAtEnd}
 use Rattle.layout_outside.specs.Causes.{Rose}
 use Rattle.layout_outside.specs.Views.{SourceView}
-use Rattle.layout_outside.specs.Taken.{Took, TookAll}
 use Rattle.pbm_reader.specs.declared.fault.PageFault.{PageFault}
 use Rattle.pbm_reader.specs.declared.fault.PageFault.TheVariants as faults
 use Rattle.pbm_reader.specs.declared.fault.Size.{Size}
 use Rattle.pbm_reader.specs.declared.form.Form.{Form}
 use Rattle.pbm_reader.specs.declared.form.Form.TheVariants.{Plain, Raw}
 use Rattle.pbm_reader.specs.Page.{Page}
-use Rattle.pbm_reader.specs.Images.{SpellsIn, AreImages, SpellsPages}
+use Rattle.pbm_reader.specs.Images.{SpellsIn, AreImages}
 use Rattle.pbm_reader.specs.Reader.{ImagesView, coming, is_plain, IsNextImage, IsNextFault, DecidesNoFault, GivesImage, EndsBehind, TellsEnd, RefusesNext}
 use Rattle.hocr_writer.specs.declared.layout.Layout.{Layout}
 use Rattle.command_words.specs.declared.plan.Plan.{Plan}
@@ -29,7 +28,7 @@ use Rattle.layout_core.specs.Owed.{Owes}
 use Rattle.layout_core.specs.Status.{OwesTooMany, RefusesLayouts, AnswersPages}
 use Rattle.page_runs.specs.Packed.{Packed}
 use Rattle.page_runs.specs.Rows.{Begun, Given, GivenPageIsHeld}
-use Rattle.layout_core.specs.Reading.{GoesOn, ReadsImages, ReadsPlain, HasRead, ReadsRows, AnswersNext, HasLaidOut}
+use Rattle.layout_core.specs.Reading.{ReadsImages, ReadsPlain, HasRead, ReadsRows, AnswersNext, HasLaidOut}
 use Rattle.layout_core.proofs.Components.{few_of}
 use Rattle.layout_core.proofs.Fronts.{images_more}
 use Rattle.layout_core.proofs.Owing.{InputLaws, few_front, stops_undecided}

@@ -1,5 +1,5 @@
 -- A page has one layout, the pages of an input have one list of layouts, and a run one output.
-use Rattle.std.proofs.Common.{◌≡◌, ◌∙◌, ℕ, ◌+◌, ◌≤◌, max, List, [], ◌∷◌, length, map, Option, None, Some, refl, sym, ap, subst, arith, inl, inr}
+use Rattle.std.proofs.Common.{◌≡◌, ◌∙◌, ℕ, ◌+◌, ◌≤◌, max, Bool, List, [], ◌∷◌, length, map, Option, None, Some, refl, sym, ap, subst, arith, inl, inr}
 use Rattle.std.specs.Prelude.{All}
 use Rattle.std.specs.List.{AllZip}
 use Rattle.std.proofs.lemmas.List.Elements.{All-nil, All-cons, All-head, All-tail}
@@ -34,10 +34,12 @@ use Rattle.made_page.specs.Made.{made_page}
 use Rattle.command_words.specs.declared.plan.Plan.{Plan}
 use Rattle.command_words.specs.Plans.{HasPlan}
 use Rattle.layout_core.specs.declared.page_layout.TheConstants.{LEAST_SIZE}
-use Rattle.layout_core.specs.Numbering.{mark_of, box_of, compare_lines, IsNumbered}
+use Rattle.layout_core.specs.Numbering.{mark_of, box_of, compare_lines, AreInOrder}
 use Rattle.layout_core.specs.Layouts.{IsLayout, IsLayoutAs, AreLayouts, AreLayoutsFrom}
 use Rattle.layout_core.specs.Run.{RunAccount, ReadsWhole, IsDocument, IsSummary, IsOutput, WritesOutput}
 use Rattle.layout_core.specs.Unique.{AskTheSame, LayoutIsUnique}
+use Rattle.word_split.specs.Words.{WordsAreUnique}
+use Rattle.layout_core.proofs.Members.{same_words}
 use Rattle.layout_core.proofs.Stable.{one_stable_sort, one_rising}
 use Rattle.layout_core.proofs.Components.{whole_is}
 use Rattle.layout_core.proofs.Planning.{OnePlan}
@@ -51,6 +53,7 @@ pub record Laws : Type 0 where
   pub lines : LinesAreUnique
   pub order : OrderIsUnique
   pub areas : AreasAreUnique
+  pub words : WordsAreUnique
 
 one_median : (xs ys : List ℕ) (m n : ℕ) → xs ≡ ys → IsLowerMedian xs m → IsLowerMedian ys n → m ≡ n
 one_median xs ys m n same is is_too =
@@ -86,12 +89,10 @@ lines_rank : IsStrictWeakOrder (λ (x y : Line). is_lt (compare_lines x y))
 lines_rank =
     ranks_by (then_total (on_total (λ (line : Line). line.bbox.y0 + line.bbox.y1) nat_cmp_total) (on_total (λ (line : Line). line.bbox.x0) nat_cmp_total)) (λ (line : Line). line)
 
-same_marks : (xs ys : List Line) (ms ns : List Mark) → xs ≡ ys → IsNumbered xs ms → IsNumbered ys ns → ms ≡ ns
-same_marks xs ys ms ns found is is_too =
-    let here : IsNumbered ys ms = rw found at is in
-    let numbered : here.numbered ≡ is_too.numbered =
-    one_stable_sort (λ (x y : Line). is_lt (compare_lines x y)) lines_rank ys here.numbered is_too.numbered here.sorted here.stable is_too.sorted is_too.stable in
-    here.shown ∙ ap (map mark_of) numbered ∙ sym is_too.shown
+same_numbered : (xs ys ns ms : List Line) → xs ≡ ys → AreInOrder xs ns → AreInOrder ys ms → ns ≡ ms
+same_numbered xs ys ns ms found is is_too =
+    let here : AreInOrder ys ns = rw found at is in
+    one_stable_sort (λ (x y : Line). is_lt (compare_lines x y)) lines_rank ys ns ms here.sorted here.stable is_too.sorted is_too.stable
 
 same_order : OrderIsUnique → (ms ns : List Mark) (o p : Order) → ms ≡ ns → IsReadingOrder (map box_of ms) o → IsReadingOrder (map box_of ns) p → o ≡ p
 same_order unique ms ns o p marks is is_too =
@@ -108,9 +109,9 @@ same_gutters k l ws vs gs hs kepts whites is is_too = cc (kepts, whites, is, is_
 
 -- ---- the layout
 
-layout_with : ℕ → ℕ → ℕ → ℕ → ℕ → ℕ → List ℕ → List Rect → List Rect → List Mark → Order → List Area → Layout
-layout_with page width height black kept median image whites gutters lines order areas =
-    record { page = page; width = width; height = height; black = black; kept = kept; median = median; image = image; whites = whites; gutters = gutters; lines = lines; order = order; areas = areas }
+layout_with : ℕ → ℕ → ℕ → ℕ → ℕ → ℕ → List ℕ → List Rect → List Rect → List Mark → Order → List Area → Bool → List (List Rect) → Layout
+layout_with page width height black kept median image whites gutters lines order areas with_words words =
+    record { page = page; width = width; height = height; black = black; kept = kept; median = median; image = image; whites = whites; gutters = gutters; lines = lines; order = order; areas = areas; with_words = with_words; words = words }
 
 -- a page has one layout of a number
 one_numbered : Laws → (number : ℕ) (p q : Plan) → AskTheSame p q → (page : Page) (l m : Layout) → IsLayoutAs number p page l → IsLayoutAs number q page m → l ≡ m
@@ -123,7 +124,8 @@ one_numbered laws number p q same page l m is is_too =
     let whites : l.whites ≡ m.whites = same_cover laws.cover is.whole is_too.whole is.kept.boxes is_too.kept.boxes (max is.kept.median LEAST_SIZE) (max is_too.kept.median LEAST_SIZE) p.rects q.rects l.whites m.whites wholes boxes (ap (λ (n : ℕ). max n LEAST_SIZE) medians) same.rects is.cover is_too.cover in
     let gutters : l.gutters ≡ m.gutters = same_gutters is.kept is_too.kept l.whites m.whites l.gutters m.gutters kepts whites is.gutters_are is_too.gutters_are in
     let found : is.found ≡ is_too.found = same_lines laws.lines is.kept is_too.kept l.gutters m.gutters page.height is.found is_too.found (low_enough is.whole page.width page.height is.sides) kepts gutters is.are_lines is_too.are_lines in
-    let lines : l.lines ≡ m.lines = same_marks is.found is_too.found l.lines m.lines found is.numbered is_too.numbered in
+    let numbered : is.numbered.numbered ≡ is_too.numbered.numbered = same_numbered is.found is_too.found is.numbered.numbered is_too.numbered.numbered found is.numbered.in_order is_too.numbered.in_order in
+    let lines : l.lines ≡ m.lines = is.numbered.shown ∙ ap (map mark_of) numbered ∙ sym is_too.numbered.shown in
     let order : l.order ≡ m.order = same_order laws.order l.lines m.lines l.order m.order lines is.order_is is_too.order_is in
     let areas : l.areas ≡ m.areas = same_areas laws.areas l.lines m.lines l.order m.order is.kept.median is_too.kept.median l.areas m.areas lines order medians is.areas_are is_too.areas_are in
     let pages : l.page ≡ m.page = is.number_is ∙ sym is_too.number_is in
@@ -133,7 +135,9 @@ one_numbered laws number p q same page l m is is_too =
     let counts : l.kept ≡ m.kept = is.kept_is ∙ ap length boxes ∙ sym is_too.kept_is in
     let middles : l.median ≡ m.median = is.median_is ∙ medians ∙ sym is_too.median_is in
     let images : l.image ≡ m.image = is.image_is ∙ same.image ∙ sym is_too.image_is in
-    let both : layout_with l.page l.width l.height l.black l.kept l.median l.image l.whites l.gutters l.lines l.order l.areas ≡ layout_with m.page m.width m.height m.black m.kept m.median m.image m.whites m.gutters m.lines m.order m.areas = cc in
+    let flags : l.with_words ≡ m.with_words = is.with_words_is ∙ same.words ∙ sym is_too.with_words_is in
+    let words : l.words ≡ m.words = same_words laws.words p.words q.words is.kept is_too.kept is.numbered.numbered is_too.numbered.numbered l.words m.words same.words kepts numbered is.words_are is_too.words_are in
+    let both : layout_with l.page l.width l.height l.black l.kept l.median l.image l.whites l.gutters l.lines l.order l.areas l.with_words l.words ≡ layout_with m.page m.width m.height m.black m.kept m.median m.image m.whites m.gutters m.lines m.order m.areas m.with_words m.words = cc in
     both
 
 pub one_layout : Laws → LayoutIsUnique
@@ -201,14 +205,18 @@ rects_in plan = plan.rects
 image_in : Plan → List ℕ
 image_in plan = plan.image
 
+shows_in : Plan → Bool
+shows_in plan = plan.words
+
 -- plans of the same words as plans that ask for the same
 also_same : (p q p' q' : Plan) → p' ≡ p → q' ≡ q → AskTheSame p q → AskTheSame p' q'
-unfolding make_in rects_in image_in
+unfolding make_in rects_in image_in shows_in
 also_same p q p' q' first second same =
     record {
       rects = ap rects_in first ∙ same.rects ∙ sym (ap rects_in second);
       image = ap image_in first ∙ same.image ∙ sym (ap image_in second);
       make = ap make_in first ∙ same.make ∙ sym (ap make_in second);
+      words = ap shows_in first ∙ same.words ∙ sym (ap shows_in second);
     }
 
 -- an input spells one list of pages

@@ -1,5 +1,5 @@
 -- The layout of a page can be written, and those of the pages of an input together.
-use Rattle.std.proofs.Common.{◌≡◌, ℕ, zero, suc, ◌+◌, ◌*◌, ◌<◌, ◌≤◌, eqb, List, [], ◌∷◌, length, map, get_or, Option, None, Some, sym, ◌∙◌, ap, subst, inl, inr, arith}
+use Rattle.std.proofs.Common.{◌≡◌, ℕ, zero, suc, ◌+◌, ◌*◌, ◌<◌, ◌≤◌, eqb, Bool, List, [], ◌∷◌, length, map, get_or, Option, None, Some, sym, ◌∙◌, ap, subst, inl, inr, arith}
 use Rattle.std.specs.Prelude.{All}
 use Rattle.std.specs.List.{range_with_len, slice_get, IsDistinct}
 use Rattle.std.specs.List.Sorted.{IsPermutation}
@@ -19,11 +19,12 @@ use Rattle.layout_geom.specs.declared.order.Order.TheVariants.{Topological, Cycl
 use Rattle.reading_order.specs.Answers.{IsReadingOrder}
 use Rattle.reading_order.specs.Areas.{AreAreasFrom}
 use Rattle.hocr_writer.specs.declared.layout.Layout.{Layout}
-use Rattle.hocr_writer.specs.Listing.{listing, HasEachOnce, NamesLines, SplitListing, IsWholeLayout, AreWholeLayouts}
+use Rattle.hocr_writer.specs.Listing.{listing, HasEachOnce, NamesLines, SplitListing, HasWords, IsWholeLayout, AreWholeLayouts}
 use Rattle.command_words.specs.declared.plan.Plan.{Plan}
-use Rattle.layout_core.specs.Numbering.{box_of}
+use Rattle.layout_core.specs.Numbering.{box_of, mark_of}
 use Rattle.layout_core.specs.Layouts.{IsLayoutAs, AreLayouts, AreLayoutsFrom}
 use Rattle.layout_core.proofs.Inside.{numbered_on_grid}
+use Rattle.layout_core.proofs.Members.{rows_long}
 
 -- the numbers below a count differ
 rising_distinct : (count : ℕ) → IsDistinct eqb (range_with_len 0 count)
@@ -72,6 +73,8 @@ whole_layout number plan page layout is =
     record {
       order = named;
       areas = subst Q (listing_long layout.order (length layout.lines) named) (split boxes (listing layout.order (length layout.lines)) (2 * is.kept.median) 0 layout.areas is.areas_are);
+      words = subst (λ (shown : Bool). HasWords shown (length layout.lines) layout.words) (sym is.with_words_is)
+          (subst (λ (count : ℕ). HasWords plan.words count layout.words) (sym (ap length is.numbered.shown ∙ length-map is.numbered.numbered mark_of)) (rows_long plan.words is.kept is.numbered.numbered layout.words is.words_are));
       marks = numbered_on_grid is.kept.boxes layout.gutters page.height is.kept.median high _ is.found layout.lines is.are_lines is.numbered;
     }
 
@@ -106,12 +109,21 @@ some_layout plan [] layouts are some none = omega (arith, some)
 some_layout plan (page ∷ pages) [] are some none = are
 some_layout plan (page ∷ pages) (l ∷ layouts) are some none = omega (arith, ap length none)
 
+all_alike : (number : ℕ) (plan : Plan) (pages : List Page) (layouts : List Layout) → AreLayoutsFrom number plan pages layouts → All (λ (layout : Layout). layout.with_words ≡ plan.words) layouts
+all_alike number plan [] [] are = All-nil (λ (layout : Layout). layout.with_words ≡ plan.words)
+all_alike number plan [] (layout ∷ layouts) are = absurd are
+all_alike number plan (page ∷ pages) [] are = absurd are
+all_alike number plan (page ∷ pages) (layout ∷ layouts) are =
+    All-cons (λ (layout : Layout). layout.with_words ≡ plan.words) layout layouts are.0.with_words_is (all_alike (number + 1) plan pages layouts are.1)
+
 -- the layouts of some pages can be written in one document
 pub whole_layouts : (plan : Plan) (pages : List Page) (layouts : List Layout) → AreLayouts plan pages layouts → 0 < length pages → AreWholeLayouts layouts
 whole_layouts plan pages layouts are some =
     record {
       some = some_layout plan pages layouts are some;
       whole = each_whole 0 plan pages layouts are;
+      with_words = plan.words;
+      alike = all_alike 0 plan pages layouts are;
       numbered = λ place layout at. omega (arith, numbered_from 0 plan pages layouts are place layout at);
     }
 

@@ -17,14 +17,15 @@ use Rattle.hocr_writer.specs.declared.layout.Layout.{Layout}
 use Rattle.hocr_writer.specs.Listing.{listing_of}
 use Rattle.command_words.specs.declared.plan.Plan.{Plan}
 use Rattle.layout_core.specs.Numbering.{box_of, IsNumbered}
+use Rattle.layout_core.specs.WordRows.{AreShownWords}
 use Rattle.layout_core.specs.declared.page_layout.TheConstants.{LEAST_SIZE}
 use Rattle.layout_core.specs.declared.page_layout.CoreFault.{CoreFault}
 use Rattle.layout_core.specs.declared.page_layout.CoreFault.TheVariants as faults
 
 -- The layout of a page by a plan, as the page of a number: its kept components, the greedy cover of its white space by at most as many rectangles as
 -- planned, each at least as wide and as high as the median height and as 8 pixels, the gutters among them, the greedy lines of its
--- text in the order of their numbers, the order in which they are read, or the cycle that forbids one, and the areas that their
--- listing falls into.
+-- text in the order of their numbers, the order in which they are read, or the cycle that forbids one, the areas that their
+-- listing falls into, and, where the plan shows them, the words of each line by its number.
 pub record IsLayoutAs (number : ℕ) (plan : Plan) (page : Page) (layout : Layout) : Type 0 where
   pub kept : Kept
   pub is_kept : IsKeptOf page kept
@@ -44,6 +45,8 @@ pub record IsLayoutAs (number : ℕ) (plan : Plan) (page : Page) (layout : Layou
   pub numbered : IsNumbered found layout.lines
   pub order_is : IsReadingOrder (map box_of layout.lines) layout.order
   pub areas_are : AreAreasOf (map box_of layout.lines) (listing_of layout) kept.median layout.areas
+  pub with_words_is : layout.with_words ≡ plan.words
+  pub words_are : AreShownWords plan.words kept numbered.numbered layout.words
 
 -- The layout of a page that stands alone, or first: its number is 0.
 abbrev pub IsLayout : Plan → Page → Layout → Type 0

@@ -1,5 +1,6 @@
 -- What a run makes of the pages of an input, and how it ends.
 pub mod Numbering
+pub mod WordRows
 pub mod Layouts
 pub mod Found
 pub mod Run

@@ -20,11 +20,15 @@ abbrev pub compare_lines : Line → Line → Ordering
 compare_lines first second =
     ordering_then (nat_cmp (first.bbox.y0 + first.bbox.y1) (second.bbox.y0 + second.bbox.y1)) (nat_cmp first.bbox.x0 second.bbox.x0)
 
--- The marks are what is shown of the lines in the order of their numbers: by their middles and left sides, and those that tie in
--- the order in which they were found. So the number of a mark names a line, with its members.
-pub record IsNumbered (found : List Line) (marks : List Mark) : Type 0 where
-  pub numbered : List Line
+-- The lines that were found, in the order of their numbers: by their middles and left sides, and those that tie in the order
+-- in which they were found.
+pub record AreInOrder (found numbered : List Line) : Type 0 where
   pub rearranged : IsPermutation found numbered
   pub sorted : IsSorted compare_lines numbered
   pub stable : IsStable compare_lines found numbered
+
+-- The marks are what is shown of the lines in the order of their numbers. So the number of a mark names a line, with its members.
+pub record IsNumbered (found : List Line) (marks : List Mark) : Type 0 where
+  pub numbered : List Line
+  pub in_order : AreInOrder found numbered
   pub shown : marks ≡ map mark_of numbered

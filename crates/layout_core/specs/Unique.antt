@@ -14,6 +14,7 @@ pub record AskTheSame (p q : Plan) : Type 0 where
   pub rects : p.rects ≡ q.rects
   pub image : p.image ≡ q.image
   pub make : p.make ≡ q.make
+  pub words : p.words ≡ q.words
 
 -- A page has one layout by plans that ask for the same.
 abbrev pub LayoutIsUnique : Type 0

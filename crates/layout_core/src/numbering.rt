@@ -6,7 +6,7 @@ ghost use Rattle.layout_geom.specs.Rectangles.{Encloses};
 ghost use Rattle.hocr_writer.specs.Listing.{NamesLines, listing};
 ghost use Rattle.reading_order.specs.Answers.{IsReadingOrder};
 ghost use Rattle.reading_order.specs.Areas.{AreAreasOf};
-ghost use Rattle.layout_core.specs.Numbering.{mark_of, box_of, IsNumbered};
+ghost use Rattle.layout_core.specs.Numbering.{mark_of, box_of, AreInOrder};
 
 use hocr_writer::{Mark, Marks};
 use layout_geom::{Areas, Numbers, Order, Rect, Rects};
@@ -27,15 +27,25 @@ fn mark_of_line(line: &Line) -> Mark
     }
 }
 
-fn marks_of(alloc: Global, lines: &[Line]) -> Result<Vec<Mark>, OutOfMemory>
+fn shown_of(alloc: Global, lines: &[Line]) -> Result<Vec<Mark>, OutOfMemory>
     ensures { IfOk result (λ marks. marks.items ≡ map mark_of lines.now) }
 {
     lines.iter().map(mark_of_line).collect(alloc)
 }
 
-/// What the document shows of the lines, in the order of their numbers: by `y0 + y1`, then by `x0`, and then as they were found.
-pub(crate) fn number_lines(alloc: Global, found: Lines) -> Result<Marks, OutOfMemory>
-    ensures { IfOk result (IsNumbered found) }
+/// What the document shows of the lines.
+pub(crate) fn marks_of(alloc: Global, lines: &Lines) -> Result<Marks, OutOfMemory>
+    ensures { IfOk result (λ marks. marks ≡ map mark_of lines.now) }
+{
+    // `len` tells that there are fewer than 2^32 of them, so that a list can hold what is shown.
+    let _count = lines.len();
+    let marks = shown_of(alloc, lines.as_slice())?;
+    Ok(Marks::from_vec(marks))
+}
+
+/// The lines in the order of their numbers: by `y0 + y1`, then by `x0`, and then as they were found.
+pub(crate) fn number_lines(found: Lines) -> Result<Lines, OutOfMemory>
+    ensures { IfOk result (AreInOrder found) }
 {
     let mut lines = found.into_vec();
     lines.sort_by_key(|line| {
@@ -44,8 +54,7 @@ pub(crate) fn number_lines(alloc: Global, found: Lines) -> Result<Marks, OutOfMe
             line.bbox.x0(),
         )
     })?;
-    let marks = marks_of(alloc, lines.as_slice())?;
-    Ok(Marks::from_vec(marks))
+    Ok(Lines::from_vec(lines))
 }
 
 fn sides_of(alloc: Global, marks: &[Mark]) -> Result<Vec<Rect>, OutOfMemory>

@@ -6,7 +6,8 @@ ghost use Rattle.layout_geom.specs.Rectangles.{HasSides};
 ghost use Rattle.layout_core.specs.Layouts.{IsLayout, IsLayoutAs, IsCoreFault};
 
 use crate::job::Searchers;
-use crate::numbering::{areas_in, boxes_of, number_lines};
+use crate::numbering::{areas_in, boxes_of, marks_of, number_lines};
+use crate::words::shown_words;
 use box_search::Searcher;
 use command_words::Plan;
 use components::{CompFault, components};
@@ -78,7 +79,7 @@ fn copy_of(alloc: Global, name: &Name) -> Result<Name, OutOfMemory>
 /// The layout of a page by a plan, by any searcher of white rectangles and any of lines: its black pixels, its kept components
 /// and their median height, the greedy cover of its white space (Breuel 2002) by at most as many rectangles as planned, each at
 /// least as wide and as high as the median height and as 8 pixels, the gutters among them, the greedy lines of its text, the order
-/// in which they are read (Breuel 2003), and the areas that they form.
+/// in which they are read (Breuel 2003), the areas that they form, and, where the plan shows them, the words of each line.
 ///
 /// It refuses a page of which more than 60,000 components are kept, and for want of memory.
 pub fn layout_of<F: Searcher<White>, G: Searcher<Grid>>(
@@ -109,7 +110,9 @@ pub fn layout_of<F: Searcher<White>, G: Searcher<Grid>>(
     )?;
     let gutters = gutters(alloc, &whites, &kept)?;
     let found = lines(alloc, &kept, &gutters, page.height(), &mut searchers.lines)?;
-    let lines = number_lines(alloc, found)?;
+    let numbered = number_lines(found)?;
+    let lines = marks_of(alloc, &numbered)?;
+    let words = shown_words(alloc, plan.words, &kept, &numbered)?;
     let boxes = boxes_of(alloc, &lines)?;
     let order = order_of(alloc, &boxes)?;
     let areas = areas_in(alloc, &boxes, &order, kept.median)?;
@@ -127,6 +130,8 @@ pub fn layout_of<F: Searcher<White>, G: Searcher<Grid>>(
         lines,
         order,
         areas,
+        with_words: plan.words,
+        words,
     })
 }
 

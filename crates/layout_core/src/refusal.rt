@@ -189,9 +189,13 @@ fn line_of_usage(program: Program) -> Line
     ensures { result.bytes ≡ usage_of program }
 {
     match program {
-        Program::Alone => line_from("usage: layout1 [--rects N] [--image NAME] [--make SEED]\n"),
+        Program::Alone => line_from(
+            "usage: layout1 [--rects N] [--image NAME] [--make SEED] [--words]\n",
+        ),
         Program::Shared => {
-            line_from("usage: layout [--workers N] [--rects N] [--image NAME] [--make SEED]\n")
+            line_from(
+                "usage: layout [--workers N] [--rects N] [--image NAME] [--make SEED] [--words]\n",
+            )
         },
     }
 }

@@ -4,4 +4,5 @@ mod devices;
 mod documents;
 mod faults;
 mod images;
+mod line_words;
 mod words;

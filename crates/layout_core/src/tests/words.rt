@@ -6,7 +6,7 @@ use std::test::Fail;
 const ONE_WHITE_PIXEL: &[u8] = b"P1\n1 1\n0\n";
 
 // Words that have a plan in neither program.
-const REFUSED: [&[&str]; 12] = [
+const REFUSED: [&[&str]; 15] = [
     &["--rects", "257"],
     &["--rects", "1", "--rects=2"],
     &["--rects", "+3"],
@@ -19,12 +19,15 @@ const REFUSED: [&[&str]; 12] = [
     &[""],
     &["--image", "a", "--make", "1"],
     &["--make", "18446744073709551616"],
+    &["--words", "--words"],
+    &["--words=x"],
+    &["--words", "--make", "7"],
 ];
 
-const USAGE_ALONE: &[u8] = b"usage: layout1 [--rects N] [--image NAME] [--make SEED]\n";
+const USAGE_ALONE: &[u8] = b"usage: layout1 [--rects N] [--image NAME] [--make SEED] [--words]\n";
 
 const USAGE_SHARED: &[u8] =
-    b"usage: layout [--workers N] [--rects N] [--image NAME] [--make SEED]\n";
+    b"usage: layout [--workers N] [--rects N] [--image NAME] [--make SEED] [--words]\n";
 
 // Whether a run ended for its words: nothing was read or written but the line.
 fn is_for_words(outcome: &Outcome, line: &[u8]) -> bool {

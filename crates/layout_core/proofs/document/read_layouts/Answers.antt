@@ -1,8 +1,5 @@
-use Rattle.std.proofs.Common.{◌≡◌, ◌∙◌, ◌-◌, ◌≤◌, ℕ, List, [], ◌∷◌, ◌++◌, Result, Err, length, ap, arith, length-append}
+use Rattle.std.proofs.Common.{◌-◌, ◌≤◌, ℕ, [], ◌∷◌, ◌++◌, Err, ap, arith, length-append}
 use Rattle.std.proofs.lemmas.Result.{err_from_is_err_and}
-use Rattle.layout_outside.specs.Views.{SourceView}
-use Rattle.hocr_writer.specs.declared.layout.Layout.{Layout}
-use Rattle.layout_core.specs.declared.refusal.Refusal.{Refusal}
 use Rattle.layout_core.specs.Refused.{refusal_of}
 use Rattle.layout_core.specs.Run.{ReadsLayouts}
 use Rattle.layout_core.proofs.Pages.{nothing_read, laid_more, count_low, few_pages, core_refused, answers_refused, not_read_fault, rose_from}

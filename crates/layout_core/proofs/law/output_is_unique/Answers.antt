@@ -9,6 +9,7 @@ returns c =
       lines = c.lines_are_unique.ensures.one_list;
       order = c.order_and_areas_are_unique.ensures.one_order;
       areas = c.order_and_areas_are_unique.ensures.one_list_of_areas;
+      words = c.words_are_unique.ensures.one_list;
     } in
     let one_list = c.each_input_is_judged.ensures.one_list in
     let one_plan = c.words_have_one_plan.ensures.one_plan in

@@ -15,6 +15,7 @@ use Rattle.line_search.specs.Lines.{AreLinesOf}
 use Rattle.layout_core.specs.Found.{core_fault_of}
 use Rattle.layout_core.specs.Layouts.{IsCoreFault}
 use Rattle.layout_core.proofs.Inside.{filter_few, kept_inside, numbered_inside}
+use Rattle.layout_core.proofs.Members.{ordered_members}
 use Rattle.layout_core.proofs.page_layout.layout_of.Goals as goal
 
 faulted : (page : Page) (fault : CompFault) → IsFaultOf page fault → IsCoreFault page (core_fault_of fault)
@@ -52,7 +53,14 @@ areas_in-requires-clause-contained g c =
     let whole = c.page_rect-whole.result in
     let boxes = c.in_ok-kept.kept.boxes in
     let all = kept_inside held whole c.page_rect-whole.ensures boxes (c.in_ok-kept.ensures.kept held (holds_itself c.args.page.now)).boxes in
-    (whole, rw c.in_ok-boxes.ensures (numbered_inside boxes c.in_ok-gutters.gutters _ _ whole all _ c.in_ok-found.found c.in_ok-lines.lines c.in_ok-found.ensures.lines c.in_ok-lines.ensures))
+    (whole, rw c.in_ok-boxes.ensures (numbered_inside boxes c.in_ok-gutters.gutters _ _ whole all _ c.in_ok-found.found c.in_ok-lines.lines c.in_ok-found.ensures.lines (record { numbered = c.in_ok-numbered.numbered; in_order = c.in_ok-numbered.ensures; shown = c.in_ok-lines.ensures })))
+
+pub shown_words-requires : goal.shown_words-requires
+shown_words-requires g c =
+    let held = page_of c.args.page.now in
+    let is = c.in_ok-kept.ensures.kept held (holds_itself c.args.page.now) in
+    ordered_members c.in_ok-kept.kept c.in_ok-gutters.gutters _ c.page_rect-whole.result c.in_ok-found.found c.in_ok-numbered.numbered
+    (kept_inside held c.page_rect-whole.result c.page_rect-whole.ensures c.in_ok-kept.kept.boxes is.boxes) is.few c.in_ok-found.ensures.lines c.in_ok-numbered.ensures
 
 pub returns-clause-layout : goal.returns-clause-layout
 returns-clause-layout g c =
@@ -81,7 +89,9 @@ returns-clause-layout g c =
       image_is = c.in_ok-image.ensures;
       found = c.in_ok-found.found;
       are_lines = subst Q (c.height.ensures.value ∙ holds.height_is) c.in_ok-found.ensures.lines;
-      numbered = c.in_ok-lines.ensures;
+      numbered = record { numbered = c.in_ok-numbered.numbered; in_order = c.in_ok-numbered.ensures; shown = c.in_ok-lines.ensures };
       order_is = rw (← c.in_ok-boxes.ensures) c.in_ok-order.ensures.order;
       areas_are = subst S (length-map c.in_ok-lines.lines box_of) (subst R c.in_ok-boxes.ensures c.in_ok-areas.ensures);
+      with_words_is = refl;
+      words_are = c.in_ok-words.ensures;
     }

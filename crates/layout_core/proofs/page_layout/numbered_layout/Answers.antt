@@ -30,4 +30,6 @@ returns-clause-layout g c =
       numbered = is.numbered;
       order_is = is.order_is;
       areas_are = is.areas_are;
+      with_words_is = is.with_words_is;
+      words_are = is.words_are;
     }
