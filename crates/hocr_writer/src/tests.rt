@@ -372,41 +372,21 @@ fn layouts_with_a_gap_or_a_wrong_number_are_not_whole(rt: HostRuntime) -> Result
         &[u32],
         &[(u32, u32, Sides)],
         bool,
-        &[&[Sides]],
-        bool,
-    ); 16] = [
-        (two, false, &[1, 0], whole, false, &[], true),
-        (two, true, &[1], whole, false, &[], true),
-        (two, false, &[0, 0], whole, false, &[], false),
-        (two, false, &[0], whole, false, &[], false),
-        (two, false, &[0, 2], whole, false, &[], false),
-        (two, true, &[2], whole, false, &[], false),
-        (two, false, &[0, 1], &[(0, 1, page)], false, &[], false),
-        (
-            two,
-            false,
-            &[0, 1],
-            &[(1, 1, page), (0, 1, page)],
-            false,
-            &[],
-            false,
-        ),
-        (
-            two,
-            false,
-            &[0, 1],
-            &[(0, 2, page), (1, 1, page)],
-            false,
-            &[],
-            false,
-        ),
+    ); 12] = [
+        (two, false, &[1, 0], whole, true),
+        (two, true, &[1], whole, true),
+        (two, false, &[0, 0], whole, false),
+        (two, false, &[0], whole, false),
+        (two, false, &[0, 2], whole, false),
+        (two, true, &[2], whole, false),
+        (two, false, &[0, 1], &[(0, 1, page)], false),
+        (two, false, &[0, 1], &[(1, 1, page), (0, 1, page)], false),
+        (two, false, &[0, 1], &[(0, 2, page), (1, 1, page)], false),
         (
             &[(page, 33, 10, 0), (page, 0, 10, 0)],
             false,
             &[0, 1],
             whole,
-            false,
-            &[],
             false,
         ),
         (
@@ -415,8 +395,6 @@ fn layouts_with_a_gap_or_a_wrong_number_are_not_whole(rt: HostRuntime) -> Result
             &[0, 1],
             whole,
             false,
-            &[],
-            false,
         ),
         (
             &[(page, 0, 10, 64), (page, 0, 10, 0)],
@@ -424,33 +402,44 @@ fn layouts_with_a_gap_or_a_wrong_number_are_not_whole(rt: HostRuntime) -> Result
             &[0, 1],
             whole,
             false,
-            &[],
-            false,
-        ),
-        (two, false, &[0, 1], whole, true, &[&[page], &[]], true),
-        (two, false, &[0, 1], whole, true, &[&[page]], false),
-        (two, false, &[0, 1], whole, true, &[], false),
-        (
-            two,
-            false,
-            &[0, 1],
-            whole,
-            false,
-            &[&[page], &[page]],
-            false,
         ),
     ];
-    for (place, (lines, is_cycle, numbers, stretches, with_words, words, is_whole)) in cases
-        .iter()
-        .enumerate()
-    {
+    for (place, (lines, is_cycle, numbers, stretches, is_whole)) in cases.iter().enumerate() {
         let mut layout = layout_of_case(alloc, &CASES[0])?;
         layout.lines = marks(alloc, lines)?;
         layout.order = order(alloc, *is_cycle, numbers)?;
         layout.areas = areas(alloc, stretches)?;
-        layout.with_words = *with_words;
-        layout.words = word_rows(alloc, words)?;
+        layout.with_words = false;
+        layout.words = WordRows::new(alloc);
         assert_eq!(rt; layout.is_whole(), *is_whole, "case {place}");
+    }
+    Ok(())
+}
+
+// So many lines without a word.
+fn wordless_rows(alloc: Global, count: u32) -> Result<WordRows, Fail> {
+    let mut rows = WordRows::new(alloc);
+    for _ in 0..count {
+        rows.push(Rects::new(alloc))?;
+    }
+    Ok(rows)
+}
+
+// A layout of two lines, with words that are told or not, and so many rows of them.
+#[test]
+fn a_layout_has_words_for_each_line_or_tells_none(rt: HostRuntime) -> Result<(), Fail> {
+    let alloc = rt.alloc();
+    for (with_words, rows, is_whole) in [
+        (true, 2, true),
+        (true, 1, false),
+        (true, 0, false),
+        (false, 0, true),
+        (false, 2, false),
+    ] {
+        let mut layout = layout_of_case(alloc, &CASES[0])?;
+        layout.with_words = with_words;
+        layout.words = wordless_rows(alloc, rows)?;
+        assert_eq!(rt; layout.is_whole(), is_whole, "{rows} rows");
     }
     Ok(())
 }

@@ -24,7 +24,7 @@ loop-place-preserved c =
     let whole : IsWholeLayout layout = (c.is_whole.ensures).0 c.if-not-is_whole.false in
     let here : slice_get layouts place ≡ Some layout = slice_get_read layouts (length layouts) place layout refl below at in
     record {
-      bare = All-more (λ (l : Layout). l.with_words ≡ false) layouts place layout below c.loop-place.invariant.bare (subst (λ (l : Layout). l.with_words ≡ false) at c.if-layout-place-2.false);
+      bare = All-more (λ (l : Layout). l.with_words ≡ false) layouts place layout below c.loop-place.invariant.bare (subst (λ (l : Layout). l.with_words ≡ false) at c.if-layout.false);
       whole = All-more IsWholeLayout layouts place layout below c.loop-place.invariant.whole (subst IsWholeLayout at whole);
       numbered = λ k other more there.
           ⊎_elim
