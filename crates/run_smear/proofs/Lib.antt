@@ -4,3 +4,4 @@ pub mod RowSmear
 pub mod Filling
 pub mod Sweeping
 pub mod Bands
+pub mod Stacking

@@ -3,3 +3,4 @@ pub mod Smear
 pub mod Painted
 pub mod Columns
 pub mod Ready
+pub mod Stacked

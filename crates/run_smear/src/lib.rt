@@ -1,13 +1,17 @@
-//! The run-length smear of a page: short white stretches between black places are filled, in rows and in columns.
+//! The run-length smear of a page: short white stretches between black places are filled, in rows and in columns, on one
+//! thread or by threads.
 #![tactic(auto)]
 
 mod band;
 mod columns;
 mod fills;
+mod forked;
 mod painting;
 mod row;
 mod smears;
+mod stack;
 #[cfg(test)]
 mod tests;
 
+pub use forked::smear;
 pub use smears::smear_alone;

@@ -1,0 +1,12 @@
+use Rattle.std.proofs.Common.{◌*◌, ◌+◌, ◌-◌}
+use Rattle.run_smear.proofs.forked.+fn-rows_apart-join+arg2+fn-rows_apart-join+arg3+rows_apart.Given as goal
+
+-- A part of the rows has fewer than they are.
+abbrev pub decreases-rows_apart : goal.decreases-rows_apart
+decreases-rows_apart g l = 2 * (l.rows.to - l.rows.from)
+
+abbrev pub decreases-join+arg2 : goal.decreases-join+arg2
+decreases-join+arg2 g l = 2 * (l.middle - l.rows-from) + 1
+
+abbrev pub decreases-join+arg3 : goal.decreases-join+arg3
+decreases-join+arg3 g l = 2 * (l.rows-to - l.middle) + 1
