@@ -4,7 +4,7 @@ ghost use Rattle.packed_rows.specs.Page.{IsPackedRow, IsPageSize};
 ghost use Rattle.page_runs.specs.Packed.{IsWhole, page_of};
 
 use crate::painting::blacken;
-use crate::smear_alone;
+use crate::{smear, smear_alone};
 use layout_limits::{MAX_PIXELS, MAX_SIDE, OutOfMemory};
 use packed_rows::{clear_padding, row_len};
 use page_runs::{RowSink, RunPage};
@@ -26,7 +26,7 @@ struct Case<'a> {
 
 const BRACKETS: [[u16; 4]; 4] = [[0, 0, 8, 1], [0, 2, 3, 4], [5, 2, 8, 4], [0, 5, 8, 6]];
 
-const CASES: [Case; 9] = [
+const CASES: [Case; 10] = [
     Case {
         name: "a gap that is short in both directions",
         width: 12,
@@ -122,6 +122,21 @@ const CASES: [Case; 9] = [
         filled: &[[101, 200, 103, 201]],
         black: 31604,
     },
+    Case {
+        name: "a gap that lies in the rows of two threads",
+        width: 200,
+        height: 4096,
+        blocks: &[
+            [10, 1000, 150, 1002],
+            [10, 1010, 11, 1040],
+            [13, 1010, 14, 1040],
+            [10, 1100, 150, 1102],
+        ],
+        h: 2,
+        v: 98,
+        filled: &[[11, 1010, 13, 1040]],
+        black: 680,
+    },
 ];
 
 /// Draws what a block has of a row.
@@ -200,9 +215,12 @@ fn smears_by_hand(rt: HostRuntime) -> Result<(), Fail> {
         assert!(rt; u32::from(width) * u32::from(height) <= MAX_PIXELS);
         let page = drawn(rt.alloc(), case.blocks, &[], width, height)?;
         let want = drawn(rt.alloc(), case.blocks, case.filled, width, height)?;
-        let smear = smear_alone(rt.alloc(), &page, case.h, case.v)?;
-        assert_eq!(rt; smear.black(), case.black, "{}", case.name);
-        same_runs(&rt, &smear, &want);
+        let alone = smear_alone(rt.alloc(), &page, case.h, case.v)?;
+        let shared = smear(&rt, rt.alloc(), &page, case.h, case.v)?;
+        assert_eq!(rt; alone.black(), case.black, "{}", case.name);
+        assert_eq!(rt; shared.black(), case.black, "{}", case.name);
+        same_runs(&rt, &alone, &want);
+        same_runs(&rt, &shared, &want);
     }
     Ok(())
 }
