@@ -11,8 +11,9 @@ use Rattle.page_runs.specs.Rows.{Given}
 use Rattle.run_smear.specs.declared.fills.Fill.{Fill}
 use Rattle.run_smear.specs.Smear.{IsInRowSmear, IsInColumnSmear, IsInSmear, IsBandOf, IsSmearOf}
 use Rattle.run_smear.specs.Painted.{GotBlack, IsPainted}
-use Rattle.run_smear.specs.Columns.{HasFill, IsFilledAt, IsSwept}
+use Rattle.run_smear.specs.Columns.{HasFill, IsFilledAt, IsSwept, AreNear, AreKnown, AreWithin}
 use Rattle.run_smear.proofs.Blackening.{pixel_below_two}
+use Rattle.run_smear.proofs.Filling.{near_kept, near_only, near_within}
 
 pub page_clipped : (p : Packed) → IsClipped (page_of p)
 unfolding page_of
@@ -34,28 +35,45 @@ row_smear_inside page h x y clipped smeared = elim smeared [
 
 -- ---- one row
 
-pub column_painted : (page : Page) (most first y next : ℕ) (behind : List ℕ) (fills : List Fill) (blank bits : List ℕ) → IsClipped page
-    → IsSwept page most first y next behind fills → first ≤ y - most → next ≡ min page.height (y + most + 1)
-    → IsPainted (λ x. IsInRowSmear page 0 x y) blank → GotBlack (λ k. IsFilledAt fills (length fills) k y) blank bits
+-- the fills that are near are known by a sweep that went on as far as they reach
+pub near_known : (page : Page) (most first y until next : ℕ) (behind : List ℕ) (fills near : List Fill) → IsClipped page
+    → IsSwept page most first y next behind fills → first ≤ y - most → next ≡ min page.height (until + most)
+    → AreWithin page.width fills → AreNear fills (length fills) until near → AreKnown page most y until near
+near_known page most first y until next behind fills near clipped swept low reach within are = record {
+  slim = near_within fills until near are page.width within;
+  sound = λ x top foot has. swept.sound x top foot (near_only fills until near are x top foot has);
+  complete = λ x top foot stretch short above below.
+      let edge = clipped x foot stretch.behind in
+      near_kept fills until near are x top foot
+      (swept.complete x top foot stretch short (omega (arith, low, short, below, stretch.begins)) below (omega (arith, reach, edge.1, short, above))) above;
+}
+
+-- the row is passed
+pub known_below : (page : Page) (most y until : ℕ) (near : List Fill) → AreKnown page most y until near → AreKnown page most (y + 1) until near
+known_below page most y until near known = record {
+  slim = known.slim;
+  sound = known.sound;
+  complete = λ x top foot stretch short above below. known.complete x top foot stretch short above (omega (arith, below));
+}
+
+pub column_painted : (page : Page) (most y until : ℕ) (near : List Fill) (blank bits : List ℕ) → AreKnown page most y until near → y < until
+    → IsPainted (λ x. IsInRowSmear page 0 x y) blank → GotBlack (λ k. IsFilledAt near (length near) k y) blank bits
     → IsPainted (λ x. IsInColumnSmear page most x y) bits
-column_painted page most first y next behind fills blank bits clipped swept low reach row got x = (
+column_painted page most y until near blank bits known ahead row got x = (
   λ black. elim (got.only x black) [
     | inl was ↦ elim ((row x).0 was) [
       | inl there ↦ inl there
       | inr filled ↦ absurd (omega (arith, filled.short, filled.stretch.some))
     ]
     | inr at ↦
-        let has : HasFill fills x _ _ = record { place = at.place; there = at.before; left = at.left; right = at.right; top_is = refl; foot_is = refl } in
-        let sound = swept.sound x _ _ has in
+        let has : HasFill near x _ _ = record { place = at.place; there = at.before; left = at.left; right = at.right; top_is = refl; foot_is = refl } in
+        let sound = known.sound x _ _ has in
         inr (record { from = _; to = _; stretch = sound.0; short = sound.1; not_before = at.not_above; within = at.above_foot })
   ],
   λ smeared. elim smeared [
     | inl there ↦ got.kept x ((row x).1 (inl there))
     | inr filled ↦
-        let edge = clipped x filled.to filled.stretch.behind in
-        let above : first < filled.from = omega (arith, low, filled.short, filled.within, filled.stretch.begins) in
-        let ends : filled.to < next = omega (arith, reach, edge.1, filled.short, filled.not_before) in
-        let has = swept.complete x filled.from filled.to filled.stretch filled.short above filled.within ends in
+        let has = known.complete x filled.from filled.to filled.stretch filled.short (omega (arith, ahead, filled.not_before)) filled.within in
         got.more x (record {
           place = has.place;
           before = has.there;

@@ -1,8 +1,10 @@
 -- Lists of fills.
-use Rattle.std.proofs.Common.{◌≡◌, ◌<◌, ℕ, zero, suc, Bool, true, false, cond, List, [], ◌∷◌, length, refl, ap, ◌∙◌, arith}
+use Rattle.std.proofs.Common.{◌≡◌, ◌<◌, ◌≤◌, ◌+◌, ℕ, zero, suc, Bool, true, false, cond, List, [], ◌∷◌, ◌++◌, length, inl, inr, refl, sym, ap, ◌∙◌, arith}
+use Rattle.std.proofs.lemmas.Bool.{cases_lt}
+use Rattle.std.proofs.lemmas.List.{length_push, get_or_append_left, get_or_push}
 use Rattle.std.specs.List.{filter}
 use Rattle.run_smear.specs.declared.fills.Fill.{Fill}
-use Rattle.run_smear.specs.Columns.{fill_at, HasFill, AreWithin}
+use Rattle.run_smear.specs.Columns.{no_fill, fill_at, HasFill, AreNear, AreWithin}
 
 -- a fill that stands in another list too
 moved : (fills more : List Fill) (k top foot : ℕ) (has : HasFill fills k top foot) (at : ℕ) → at < length more → fill_at more at ≡ fill_at fills has.place
@@ -57,3 +59,59 @@ module _ (test : Fill → Bool) (fills more : List Fill) (are : more ≡ filter 
   filtered_within width within = rw are (λ i below.
       let at = stood test fills i below in
       omega (arith, within at.0 at.1, ap (λ (g : Fill). g.x1) at.2))
+
+-- ---- some fills are listed
+
+-- a fill that goes to the end of the list stands there, and the others stand where they stood
+pub near_more : (fills : List Fill) (count until : ℕ) (near : List Fill) → AreNear fills count until near → count < length fills
+    → AreNear fills (count + 1) until (near ++ fill_at fills count ∷ [])
+near_more fills count until near are there = record {
+  kept = λ i below above. elim (cases_lt i count) [
+    | inl before ↦
+        let at = are.kept i before above in
+        (at.0, omega (arith, at.1, length_push near (fill_at fills count)), get_or_append_left near (fill_at fills count ∷ []) no_fill at.0 at.1 ∙ at.2)
+    | inr late ↦ (
+      length near,
+      omega (arith, length_push near (fill_at fills count)),
+      get_or_push near (fill_at fills count) no_fill (length near) refl ∙ ap (λ (n : ℕ). fill_at fills n) (sym (same i late below)),
+    )
+  ];
+  only = λ j below. elim (cases_lt j (length near)) [
+    | inl before ↦ let at = are.only j before in (at.0, at.1, at.2 ∙ sym (get_or_append_left near (fill_at fills count ∷ []) no_fill j before))
+    | inr late ↦
+        let last : j ≡ length near = omega (arith, late, below, length_push near (fill_at fills count)) in
+        (count, there, sym (ap (λ (n : ℕ). fill_at (near ++ fill_at fills count ∷ []) n) last ∙ get_or_push near (fill_at fills count) no_fill (length near) refl))
+  ];
+}
+  where
+    same : (i : ℕ) → count ≤ i → i < count + 1 → i ≡ count
+    same i late below = omega (arith, late, below)
+
+-- one that does not begin above the row is passed over
+pub near_same : (fills : List Fill) (count until : ℕ) (near : List Fill) → AreNear fills count until near → until ≤ (fill_at fills count).top
+    → AreNear fills (count + 1) until near
+near_same fills count until near are low = record {
+  kept = λ i below above. elim (cases_lt i count) [
+    | inl before ↦ are.kept i before above
+    | inr late ↦
+        let last : i ≡ count = omega (arith, late, below) in
+        absurd (omega (arith, above, low, ap (λ (n : ℕ). (fill_at fills n).top) last))
+  ];
+  only = are.only;
+}
+
+module _ (fills : List Fill) (until : ℕ) (near : List Fill) (are : AreNear fills (length fills) until near) where
+  pub near_kept : (k top foot : ℕ) → HasFill fills k top foot → top < until → HasFill near k top foot
+  near_kept k top foot has above =
+      let at = are.kept has.place has.there (omega (arith, above, has.top_is)) in
+      moved fills near k top foot has at.0 at.1 at.2
+
+  pub near_only : (k top foot : ℕ) → HasFill near k top foot → HasFill fills k top foot
+  near_only k top foot has =
+      let at = are.only has.place has.there in
+      moved near fills k top foot has at.0 at.1 at.2
+
+  pub near_within : (width : ℕ) → AreWithin width fills → AreWithin width near
+  near_within width within j below =
+      let at = are.only j below in
+      omega (arith, within at.0 at.1, ap (λ (g : Fill). g.x1) at.2)

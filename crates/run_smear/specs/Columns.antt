@@ -34,6 +34,11 @@ pub record IsFilledAt (fills : List Fill) (count x y : ℕ) : Type 0 where
 abbrev pub AreWithin : ℕ → List Fill → Type 0
 AreWithin width fills = (i : ℕ) → i < length fills → (fill_at fills i).x1 ≤ width
 
+-- of the first so many fills those that begin above a row are listed, and only fills are
+pub record AreNear (fills : List Fill) (count until : ℕ) (near : List Fill) : Type 0 where
+  pub kept : (i : ℕ) → i < count → (fill_at fills i).top < until → (j : ℕ) × (j < length near) × (fill_at near j ≡ fill_at fills i)
+  pub only : (j : ℕ) → j < length near → (i : ℕ) × (i < length fills) × (fill_at fills i ≡ fill_at near j)
+
 -- fills of one column more
 pub record AddsFill (x top foot : ℕ) (old new : List Fill) : Type 0 where
   pub kept : (k t f : ℕ) → HasFill old k t f → HasFill new k t f
@@ -78,3 +83,11 @@ pub record IsSwept (page : Page) (most first low y : ℕ) (behind : List ℕ) (f
   pub sound : (x top foot : ℕ) → HasFill fills x top foot → IsStretch (λ k. page.is_black x k) top foot × (foot ≤ top + most)
   pub complete : (x top foot : ℕ) → IsStretch (λ k. page.is_black x k) top foot → foot ≤ top + most
       → first < top → low < foot → foot < y → HasFill fills x top foot
+
+-- These fills are short stretches of their columns, and each short stretch that begins above the row `until`, and has a part of row y or
+-- of one below it, has its fill.
+pub record AreKnown (page : Page) (most y until : ℕ) (fills : List Fill) : Type 0 where
+  pub slim : AreWithin page.width fills
+  pub sound : (x top foot : ℕ) → HasFill fills x top foot → IsStretch (λ k. page.is_black x k) top foot × (foot ≤ top + most)
+  pub complete : (x top foot : ℕ) → IsStretch (λ k. page.is_black x k) top foot → foot ≤ top + most
+      → top < until → y < foot → HasFill fills x top foot

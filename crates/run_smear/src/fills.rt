@@ -1,7 +1,7 @@
 //! The stretches of columns that are filled.
 ghost use Rattle.std.specs.Prelude.{◌≡◌, ◌<◌, ◌≤◌, ◌*◌, ℕ, length, OnOk};
 ghost use Rattle.run_smear.specs.Painted.{GotBlack};
-ghost use Rattle.run_smear.specs.Columns.{AddsFill, AreWithin, HasFill, IsFilledAt};
+ghost use Rattle.run_smear.specs.Columns.{AddsFill, AreNear, AreWithin, HasFill, IsFilledAt};
 
 use crate::painting::blacken;
 use layout_limits::OutOfMemory;
@@ -59,6 +59,19 @@ pub(crate) fn forget_done(fills: &mut Vec<Fill>, y: u16)
     ensures slim { (width : ℕ) → AreWithin width fills.old.items → AreWithin width fills.new.items }
 {
     fills.retain(|fill| y < fill.foot);
+}
+
+/// Lists the fills that begin above a row.
+pub(crate) fn list_near(near: &mut Vec<Fill>, fills: &[Fill], until: u16) -> Result<(), OutOfMemory>
+    ensures { OnOk result (AreNear fills.now (length fills.now) until near.new.items) }
+{
+    near.clear();
+    for fill in fills {
+        if fill.top < until {
+            near.push(*fill)?;
+        }
+    }
+    Ok(())
 }
 
 /// Makes the pixels of a packed row black that fills have in it.

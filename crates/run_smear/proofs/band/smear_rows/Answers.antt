@@ -1,9 +1,29 @@
-use Rattle.std.proofs.Common.{◌≡◌, ◌∙◌, ◌++◌, take, drop, List, ℕ, length, ap, subst, arith}
+use Rattle.std.proofs.Common.{◌≡◌, ◌∙◌, ◌++◌, take, drop, List, ℕ, length, ap, subst, rules, arith}
 use Rattle.std.proofs.lemmas.List.{take_at}
+use Rattle.std.proofs.lemmas.Grind.{common_steps}
 use Rattle.page_runs.specs.Packed.{page_of}
 use Rattle.page_runs.specs.Rows.{Given}
 use Rattle.run_smear.proofs.Bands.{row_smeared}
 use Rattle.run_smear.proofs.band.smear_rows.Goals as goal
+
+pub loop-y-init : goal.loop-y-init
+loop-y-init c = record {
+  len = search rules;
+  other_len = search rules;
+  ready = record {
+    first = c.saturating_sub.result;
+    early = omega (arith, c.saturating_sub.ensures);
+    begun = omega arith;
+    reach = omega (arith, c.saturating_sub.ensures, c.requires.some, c.requires.rows);
+    slim = search rules;
+    swept = grind (arith, common_steps);
+    near = λ ahead. absurd (omega (arith, ahead));
+  };
+  width_is = search rules;
+  height_is = search rules;
+  rows_is = search rules;
+  blacks = λ x k none. absurd (omega (arith, none));
+}
 
 pub loop-y-preserved : goal.loop-y-preserved
 loop-y-preserved c =
