@@ -59,6 +59,14 @@ run_more from x y most behind mid now fills some more first right second =
     (λ k a b. omega (arith, a.1, b)) (λ k a. (a.0, omega (arith, a.1))) (λ k b. (omega (arith, b, right), omega (arith, b)))
     (λ k c. elim (cases_lt k x) [ inl left ↦ inl (c.0, left) | inr past ↦ inr (omega (arith, past, c.1)) ])
 
+-- some columns more of a run
+pub columns_more : (from x to y most : ℕ) (behind mid now : List ℕ) (fills some more : List Fill) → Closes (IsBetween from x) y most behind mid fills some → from ≤ x → x ≤ to
+    → Closes (IsBetween x to) y most mid now some more → Closes (IsBetween from to) y most behind now fills more
+columns_more from x to y most behind mid now fills some more first left right second =
+    closes_both (IsBetween from x) (IsBetween x to) (IsBetween from to) y most behind mid now fills some more first second
+    (λ k a b. omega (arith, a.1, b.0)) (λ k a. (a.0, omega (arith, a.1, right))) (λ k b. (omega (arith, b.0, left), b.1))
+    (λ k c. elim (cases_lt k x) [ inl before ↦ inl (c.0, before) | inr past ↦ inr (past, c.1) ])
+
 pub run_ended : (from x to y most : ℕ) (behind now : List ℕ) (fills more : List Fill) → Closes (IsBetween from x) y most behind now fills more
     → to ≤ x → (to ≤ from → x ≡ from) → (from ≤ to → x ≤ to) → Closes (IsBetween from to) y most behind now fills more
 run_ended from x to y most behind now fills more closes past none within =

@@ -1,5 +1,5 @@
 //! The sweep over the rows of a page, which finds the stretches of columns that are filled.
-ghost use Rattle.std.specs.Prelude.{◌≡◌, ◌<◌, ◌≤◌, ℕ, length, slice_index, OnOk};
+ghost use Rattle.std.specs.Prelude.{◌≡◌, ◌<◌, ◌≤◌, ℕ, IsTrue, length, slice_index, OnOk};
 ghost use Rattle.page_runs.specs.Packed.{IsWhole, page_of};
 ghost use Rattle.page_runs.specs.Runs.{AreApart};
 ghost use Rattle.run_smear.specs.Painted.{IsBetween};
@@ -8,6 +8,9 @@ ghost use Rattle.run_smear.specs.Columns.{AreWithin, Closes, IsInRuns, IsSwept};
 use crate::fills::{Fill, add_fill};
 use layout_limits::{MAX_SIDE, OutOfMemory};
 use page_runs::{Run, RunPage};
+
+/// How many columns of a run are looked at together: a run is black in the row above in most of its columns, but seldom in all.
+const COLUMNS_AT_A_TIME: u16 = 32;
 
 /// Ends the gap of a column at row y, which is black there, and fills it where it has at most so many rows.
 fn close_column(
@@ -31,6 +34,59 @@ fn close_column(
     Ok(())
 }
 
+/// Whether all columns from one up to another, which is excluded, have this row behind their last black one.
+fn are_behind(behind: &[u16], from: usize, to: usize, row: u16) -> bool
+    requires { to ≤ length behind.now }
+    ensures { IsTrue result → (k : ℕ) → IsBetween from to k → slice_index behind.now k ≡ row }
+{
+    // All are looked at, so that several can be at a time.
+    let mut others = 0_usize;
+    for x in from..to {
+        if behind[x] != row {
+            others += 1;
+        }
+    }
+    others == 0
+}
+
+/// Gives all columns from one up to another, which is excluded, this row behind their last black one.
+fn set_behind(behind: &mut [u16], from: usize, to: usize, row: u16)
+    requires { to ≤ length behind.old }
+    ensures len { length behind.new ≡ length behind.old }
+    ensures set { (k : ℕ) → IsBetween from to k → slice_index behind.new k ≡ row }
+    ensures same { (k : ℕ) → ¬ IsBetween from to k → slice_index behind.new k ≡ slice_index behind.old k }
+{
+    for x in from..to {
+        behind[x] = row;
+    }
+}
+
+/// Ends the gaps of the columns from one up to another, which is excluded, in row y. Where all are black in the row above it
+/// too, there is none.
+fn close_columns(
+    behind: &mut [u16],
+    fills: &mut Vec<Fill>,
+    from: u16,
+    to: u16,
+    y: u16,
+    most: u16,
+) -> Result<(), OutOfMemory>
+    requires columns { to ≤ length behind.old }
+    requires small { to ≤ MAX_SIDE }
+    requires row { y < MAX_SIDE }
+    ensures closes { OnOk result (Closes (IsBetween from to) y most behind.old behind.new fills.old.items fills.new.items) }
+    ensures slim { OnOk result ((width : ℕ) → to ≤ width → AreWithin width fills.old.items → AreWithin width fills.new.items) }
+{
+    if are_behind(behind, usize::from(from), usize::from(to), y) {
+        set_behind(behind, usize::from(from), usize::from(to), y + 1);
+        return Ok(());
+    }
+    for x in from..to {
+        close_column(behind, fills, x, y, most)?;
+    }
+    Ok(())
+}
+
 /// Ends the gaps of the columns of a run in row y.
 fn close_run(
     behind: &mut [u16],
@@ -45,8 +101,11 @@ fn close_run(
     ensures closes { OnOk result (Closes (IsBetween run.x0 run.x1) y most behind.old behind.new fills.old.items fills.new.items) }
     ensures slim { OnOk result ((width : ℕ) → run.x1 ≤ width → AreWithin width fills.old.items → AreWithin width fills.new.items) }
 {
-    for x in run.x0..run.x1 {
-        close_column(behind, fills, x, y, most)?;
+    let mut from = run.x0;
+    while from < run.x1 {
+        let to = run.x1.min(from + COLUMNS_AT_A_TIME);
+        close_columns(behind, fills, from, to, y, most)?;
+        from = to;
     }
     Ok(())
 }
