@@ -6,49 +6,26 @@ ghost use Rattle.line_search.specs.Problem.{grid_numbers, IsGridKey};
 ghost use Rattle.layout_core.specs.Status.{Runs, change};
 
 use crate::job::{Job, Searchers, Streams, lay_out, plan_of};
+use crate::long_search::{FIRST_HEAD_START, best_of};
 use crate::refusal::refuse;
-use box_search::{Alone, FromFn, HeadStart, Searcher, Space};
+use box_search::FromFn;
 use command_words::Program;
 use layout_limits::{MAX_WORKERS, OutOfMemory};
 use layout_outside::{Sink, Source};
-use lease_workers::{Gate, Workers};
+use lease_workers::Gate;
 use line_search::Grid;
 use std::alloc::Global;
+use std::cell::Cell;
 use std::sync::Wait;
 use std::thread::Threads;
 use whitespace_cover::White;
-
-/// How many boxes of a search are opened before workers are asked for. Most searches of a page end sooner, and to
-/// begin threads and join them costs more than such a search.
-const HEAD_START: u32 = 200;
-
-/// The greatest admitted key, or 0 exactly where no key is admitted: found on this thread where it is to be one worker or
-/// where that takes few boxes, and else by workers, who go on from the boxes that are open then.
-fn best_of<S: Space, R: Threads + Wait + Sync, G: Gate>(
-    alloc: Global,
-    rt: &R,
-    space: &S,
-    count: u32,
-    gate: &G,
-) -> Result<u64, OutOfMemory>
-    requires counts { (1 ≤ count) × (count ≤ MAX_WORKERS) }
-    ensures greatest { IfOk result (IsGreatestKey (S.admits (S.problem space.now))) }
-{
-    if count == 1 {
-        return Alone.best(alloc, space);
-    }
-    match Alone.best_within(alloc, space, HEAD_START)? {
-        HeadStart::Ended(key) => Ok(key),
-        HeadStart::Open(nodes) => Workers::new(count, gate).best_from(alloc, rt, space, nodes),
-    }
-}
 
 /// Does what the words of `layout` plan, by as many workers as they ask for. What it reads, writes and answers is just what
 /// `layout_alone` does with the same rectangles and the same image: no clause has the number of workers or the schedule in
 /// it, so the bytes of two runs with status 0 on one input are equal.
 ///
-/// A search begins on this thread, and asks for workers where it has not ended within `HEAD_START` boxes. Each worker
-/// passes the gate before each of its turns. The run may wait; what it promises holds if it returns.
+/// A search begins on this thread, and asks for workers where it takes many boxes. Each worker passes the gate before each
+/// of its turns. The run may wait; what it promises holds if it returns.
 pub fn layout_shared<R: Threads + Wait + Sync, S: Source, K: Sink, E: Sink, G: Gate>(
     rt: &R,
     alloc: Global,
@@ -67,17 +44,18 @@ pub fn layout_shared<R: Threads + Wait + Sync, S: Source, K: Sink, E: Sink, G: G
         Err(refusal) => return refuse(err, refusal),
     };
     let count = u32::from(plan.workers);
+    let head_start = Cell::new(FIRST_HEAD_START);
     let whites = FromFn {
         search: |white: &White| -> Result<u64, OutOfMemory>
             requires { (1 ≤ count) × (count ≤ MAX_WORKERS) }
             ensures { IfOk result (IsGreatestKey (IsWhiteKey (white_numbers white.now))) }
-        { best_of(alloc, rt, white, count, gate) },
+        { best_of(alloc, rt, white, count, gate, &head_start) },
     };
     let lines = FromFn {
         search: |grid: &Grid| -> Result<u64, OutOfMemory>
             requires { (1 ≤ count) × (count ≤ MAX_WORKERS) }
             ensures { IfOk result (IsGreatestKey (IsGridKey (grid_numbers grid.now))) }
-        { best_of(alloc, rt, grid, count, gate) },
+        { best_of(alloc, rt, grid, count, gate, &head_start) },
     };
     let job = Job {
         program: Program::Shared,
