@@ -4,7 +4,7 @@ use Rattle.std.specs.Prelude.{is_some}
 use Rattle.command_words.specs.Items.{Text}
 use Rattle.command_words.specs.Values.{IsImageOf, IsNumberOf, IsSeedOf}
 use Rattle.command_words.specs.Plans.{AreApart, HasNoPlan, HasPlan, usual_workers, value_in}
-use Rattle.command_words.specs.Givens.{HasValues, text_of}
+use Rattle.command_words.specs.Givens.{HasValues, IsSeedApart, text_of}
 use Rattle.command_words.specs.declared.options.OptionTexts.{OptionTexts}
 use Rattle.command_words.specs.declared.plan.Plan.{Plan}
 use Rattle.layout_limits.specs.declared.TheConstants.{MAX_RECTS, MAX_WORKERS}
@@ -27,26 +27,24 @@ pub no_plan : (program : Program) (words : List Text) (given : OptionTexts) (val
 no_plan program words given values Tells name text is told none plan has =
     none plan (subst (Tells plan) (sym is) (subst (λ items. Tells plan (value_in items name)) (same_values program words given plan values has) (told plan has)))
 
--- Nor have words with a seed where an image, or the flag, is given too.
-apart_from_seed : (program : Program) (words : List Text) (given : OptionTexts) (values : HasValues program (map told_word words) given) (name : Text) (text : Option Text)
-    → text ≡ value_in values.items name
-    → ((plan : Plan) (has : HasPlan program words plan) → AreApart (value_in has.items name) (value_in has.items (codes "make")))
-    → (AreApart text (text_of given.make) → ⊥) → HasNoPlan program words
-apart_from_seed program words given values name text is told both plan has =
-    both
-    (subst (λ v. AreApart v (text_of given.make)) (sym is)
+-- an option that a plan has apart from a seed was given apart from one
+apart_as_given : (program : Program) (words : List Text) (given : OptionTexts) (plan : Plan) (values : HasValues program (map told_word words) given) (has : HasPlan program words plan) (name : Text) (text : Option Text)
+    → text ≡ value_in values.items name → AreApart (value_in has.items name) (value_in has.items (codes "make")) → AreApart text (text_of given.make)
+apart_as_given program words given plan values has name text is apart =
+    subst (λ v. AreApart v (text_of given.make)) (sym is)
     (subst (λ v. AreApart (value_in values.items name) v) (sym values.make)
-    (subst (λ is. AreApart (value_in is name) (value_in is (codes "make"))) (same_values program words given plan values has) (told plan has))))
+    (subst (λ is. AreApart (value_in is name) (value_in is (codes "make"))) (same_values program words given plan values has) apart))
 
+-- Nor have words with a seed where an image, or a flag, is given too.
 pub not_apart : (program : Program) (words : List Text) (given : OptionTexts) → HasValues program (map told_word words) given
-    → (AreApart (text_of given.image) (text_of given.make) → ⊥) → HasNoPlan program words
-not_apart program words given values both =
-    apart_from_seed program words given values (codes "image") (text_of given.image) values.image (λ plan has. has.apart) both
-
-pub flag_not_apart : (program : Program) (words : List Text) (given : OptionTexts) → HasValues program (map told_word words) given
-    → (AreApart (text_of given.words) (text_of given.make) → ⊥) → HasNoPlan program words
-flag_not_apart program words given values both =
-    apart_from_seed program words given values (codes "words") (text_of given.words) values.flag (λ plan has. has.words_apart) both
+    → (IsSeedApart given → ⊥) → HasNoPlan program words
+not_apart program words given values both plan has =
+    let as_given = apart_as_given program words given plan values has in
+    both (record {
+      image = as_given (codes "image") (text_of given.image) values.image has.apart;
+      words = as_given (codes "words") (text_of given.words) values.words_given has.words_apart;
+      cells = as_given (codes "xy") (text_of given.xy) values.cells_given has.cells_apart;
+    })
 
 -- a value tells one number at most, one name, and one seed
 one_number : (value : Option Text) (usual least most n m : ℕ) → IsNumberOf value usual least most n → IsNumberOf value usual least most m → n ≡ m
@@ -72,5 +70,7 @@ one_plan program words p q has_p has_q =
     (subst (λ is. IsImageOf (value_in is (codes "image")) p.image) same has_p.image) has_q.image in
     let make = one_seed (value_in has_q.items (codes "make")) p.make q.make
     (subst (λ is. IsSeedOf (value_in is (codes "make")) p.make) same has_p.make) has_q.make in
-    let shows : p.words ≡ q.words = has_p.shows_words ∙ ap (λ is. is_some (value_in is (codes "words"))) same ∙ sym has_q.shows_words in
-    λ i. record { rects = rects i; workers = workers i; image = image i; make = make i; words = shows i }
+    let shows : (name : Text) → is_some (value_in has_p.items name) ≡ is_some (value_in has_q.items name) = λ name. ap (λ is. is_some (value_in is name)) same in
+    let shown : p.words ≡ q.words = has_p.shows_words ∙ shows (codes "words") ∙ sym has_q.shows_words in
+    let cells : p.xy ≡ q.xy = has_p.shows_cells ∙ shows (codes "xy") ∙ sym has_q.shows_cells in
+    λ i. record { rects = rects i; workers = workers i; image = image i; make = make i; words = shown i; xy = cells i }

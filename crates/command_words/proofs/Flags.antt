@@ -1,37 +1,78 @@
--- Words are items exactly where `clap`, which is given the flag with an empty value, is given these items.
-use Rattle.std.proofs.Common.{◌≡◌, ◌∙◌, ◌==◌, ◌||◌, ◌++◌, ℕ, Bool, true, false, suc, refl, sym, ap, ap₂, subst, arith, List, [], ◌∷◌, map, drop, length, codes, inl, inr, true≢false, append_assoc}
-use Rattle.std.specs.List.{All, Contains, list_any, before_first, after_first}
+-- Words are items exactly where `clap`, which is given a flag with an empty value, is given these items.
+use Rattle.std.proofs.Common.{◌≡◌, ◌∙◌, ◌==◌, ◌||◌, ◌++◌, ℕ, Bool, true, false, suc, refl, sym, ap, ap₂, subst, arith, List, [], ◌∷◌, map, drop, length, codes, inl, inr, true≢false, append_assoc, append-nil}
+use Rattle.std.specs.List.{All, Contains, list_any, starts_with, before_first, after_first}
 use Rattle.std.specs.Prelude.{eqb}
 use Rattle.std.specs.Str.{bytes_eq}
 use Rattle.std.proofs.lemmas.Slice.Eq.{starts_is}
 use Rattle.std.proofs.lemmas.Bool.Decides.{Decides-eqb}
-use Rattle.std.proofs.lemmas.List.Folds.{list_any-append}
+use Rattle.std.proofs.lemmas.List.Folds.{Any-from_list_any, list_any-append, list_any-from_Any}
 use Rattle.std.proofs.lemmas.List.{map-append}
 use Rattle.clap.proofs.SimpleLemmas.{is_false}
 use Rattle.clap.specs.Lexer.{has_byte}
-use Rattle.command_words.specs.Items.{Text, Item, SpellsFlag, SpellsItem, SpellsItems, SpellsOption, begins_with_hyphen, is_flag}
+use Rattle.command_words.specs.Items.{Text, Item, SpellsItem, SpellsItems, SpellsOption, begins_with_hyphen, flags, is_flag}
 use Rattle.command_words.specs.Givens.{HasOptions, SpellsOptions}
 use Rattle.command_words.specs.Plans.{HasItems, options_of}
-use Rattle.command_words.specs.Strays.{is_stray, is_refused, gives_value, told_word}
+use Rattle.command_words.specs.Strays.{is_stray, is_refused, is_flag_word, gives_value, told_word}
 use Rattle.command_words.specs.declared.plan.Program.{Program}
-use Rattle.command_words.proofs.Walking.{is_option, same_text, text_is_itself}
+use Rattle.command_words.proofs.Walking.{same_text, text_is_itself}
 use Rattle.command_words.proofs.Reading.{has_sign, is_name, name_before, value_after}
+use Rattle.command_words.proofs.Parsing.{named_word}
 use Rattle.command_words.proofs.Telling.{name_of_option}
 use Rattle.command_words.proofs.Finding.{both_false}
 use Rattle.command_words.proofs.Known.{items_unstray, known_options, one_options, options_are_names}
 
--- ---- one word
+-- ---- the flags
 
-as_it_is : (word : Text) → bytes_eq word (codes "--words") ≡ false → told_word word ≡ word
-as_it_is word other = rw other refl
+-- what passes a test at one of the flags, by the flag's name
+record AtFlag (passes : Text → Bool) : Type 0 where
+  name : Text
+  flag : is_flag name ≡ true
+  passed : passes name ≡ true
 
-plain_other : (word : Text) → begins_with_hyphen word ≡ false → bytes_eq word (codes "--words") ≡ false
-plain_other [] plain = refl
-plain_other (x ∷ xs) plain = rw plain refl
+at_flag : (passes : Text → Bool) → list_any passes flags ≡ true → AtFlag passes
+at_flag passes e =
+    let any = Any-from_list_any passes flags e in
+    record {
+      name = any.1;
+      flag = list_any-from_Any (bytes_eq any.1) flags (any.0, any.1, any.2, any.3, text_is_itself any.1);
+      passed = any.4;
+    }
+
+from_flag : (passes : Text → Bool) (name : Text) → is_flag name ≡ true → passes name ≡ true → list_any passes flags ≡ true
+from_flag passes name flag passed =
+    let any = Any-from_list_any (bytes_eq name) flags flag in
+    list_any-from_Any passes flags (any.0, any.1, any.2, any.3, subst (λ n. passes n ≡ true) (same_text name any.1 any.4) passed)
+
+flag_is_name : (name : Text) → is_flag name ≡ true → is_name name ≡ true
+flag_is_name name flag = name_of_option flags name refl (from_flag (λ known. bytes_eq known name) name flag (text_is_itself name))
 
 no_sign_in : (name : Text) → is_name name ≡ true → has_byte 61 name ≡ false
 no_sign_in [] named = absurd (true≢false (sym named))
 no_sign_in (x ∷ xs) named = is_false _ named
+
+-- a word that is a flag
+record FlagWord (word : Text) : Type 0 where
+  name : Text
+  flag : is_flag name ≡ true
+  named : is_name name ≡ true
+  is : word ≡ 45 ∷ 45 ∷ name
+
+flag_word : (word : Text) → is_flag_word word ≡ true → FlagWord word
+flag_word word e =
+    let at = at_flag (λ flag. bytes_eq word (codes "--" ++ flag)) e in
+    record { name = at.name; flag = at.flag; named = flag_is_name at.name at.flag; is = same_text word (codes "--" ++ at.name) at.passed }
+
+-- ---- one word
+
+as_it_is : (word : Text) → is_flag_word word ≡ false → told_word word ≡ word
+as_it_is word other = rw other refl
+
+with_sign : (word : Text) → is_flag_word word ≡ true → told_word word ≡ word ++ codes "="
+with_sign word flag = rw flag refl
+
+plain_other : (word : Text) → begins_with_hyphen word ≡ false → is_flag_word word ≡ false
+plain_other [] plain = refl
+plain_other (x ∷ xs) plain = rw plain refl
 
 tail_of : (x y : ℕ) (xs ys : Text) → x ∷ xs ≡ y ∷ ys → xs ≡ ys
 tail_of x y xs ys e = cc
@@ -40,11 +81,11 @@ tail_of x y xs ys e = cc
 behind_two : (xs ys : Text) → 45 ∷ 45 ∷ xs ≡ 45 ∷ 45 ∷ ys → xs ≡ ys
 behind_two xs ys e = tail_of 45 45 xs ys (tail_of 45 45 (45 ∷ xs) (45 ∷ ys) e)
 
--- a name with a value tells the flag with one only where it is the flag's
-flag_before : (name value rest : Text) → has_byte 61 name ≡ false → name ++ 61 ∷ value ≡ codes "words" ++ 61 ∷ rest → (name ≡ codes "words") × (value ≡ rest)
-flag_before name value rest whole e = (
-  sym (name_before name value whole) ∙ ap (before_first (λ x. x == 61)) e ∙ name_before (codes "words") rest refl,
-  sym (value_after name value whole) ∙ ap (after_first (λ x. x == 61)) e ∙ value_after (codes "words") rest refl,
+-- a name with a value is no other one
+parted : (name other value rest : Text) → has_byte 61 name ≡ false → has_byte 61 other ≡ false → name ++ 61 ∷ value ≡ other ++ 61 ∷ rest → (name ≡ other) × (value ≡ rest)
+parted name other value rest whole whole_other e = (
+  sym (name_before name value whole) ∙ ap (before_first (λ x. x == 61)) e ∙ name_before other rest whole_other,
+  sym (value_after name value whole) ∙ ap (after_first (λ x. x == 61)) e ∙ value_after other rest whole_other,
 )
 
 -- the word of an option with its value
@@ -54,28 +95,47 @@ joined name value = codes "--" ++ name ++ codes "=" ++ value
 joined_is : (name value : Text) → joined name value ≡ 45 ∷ 45 ∷ (name ++ 61 ∷ value)
 joined_is name value = cc (append_assoc (codes "--" ++ name) (codes "=") value)
 
-joined_other : (name value : Text) → bytes_eq (joined name value) (codes "--words") ≡ false
-joined_other name value = go (bytes_eq (joined name value) (codes "--words")) refl
+joined_other : (name value : Text) → is_flag_word (joined name value) ≡ false
+joined_other name value = go (is_flag_word (joined name value)) refl
   where
-    go : (b : Bool) → bytes_eq (joined name value) (codes "--words") ≡ b → b ≡ false
+    go : (b : Bool) → is_flag_word (joined name value) ≡ b → b ≡ false
     go false e = refl
     go true e =
-        let same : name ++ 61 ∷ value ≡ codes "words" = behind_two (name ++ 61 ∷ value) (codes "words") (sym (joined_is name value) ∙ same_text _ _ e) in
-        absurd (true≢false (sym (has_sign name value) ∙ ap (has_byte 61) same))
+        let word = flag_word (joined name value) e in
+        let same : name ++ 61 ∷ value ≡ word.name = behind_two (name ++ 61 ∷ value) word.name (sym (joined_is name value) ∙ word.is) in
+        absurd (true≢false (sym (has_sign name value) ∙ ap (has_byte 61) same ∙ no_sign_in word.name word.named))
 
--- words that give the flag a value are those that begin so
-valued_begins : (word : Text) → gives_value word ≡ true → word ≡ codes "--words=" ++ drop 8 word
-valued_begins word e = (starts_is Decides-eqb word (codes "--words=") (gives_value word) refl).0 e
+-- words that give a flag a value are those that begin so
+record ValuedFlag (word : Text) : Type 0 where
+  name : Text
+  flag : is_flag name ≡ true
+  value : Text
+  is : word ≡ joined name value
 
-begins_valued : (word rest : Text) → word ≡ codes "--words=" ++ rest → gives_value word ≡ true
-begins_valued word rest e = (starts_is Decides-eqb word (codes "--words=") (gives_value word) refl).1 rest e
+valued_flag : (word : Text) → gives_value word ≡ true → ValuedFlag word
+valued_flag word e =
+    let at = at_flag (λ flag. starts_with eqb word (codes "--" ++ flag ++ codes "=")) e in
+    let front = codes "--" ++ at.name ++ codes "=" in
+    record {
+      name = at.name;
+      flag = at.flag;
+      value = drop (length front) word;
+      is = (starts_is Decides-eqb word front (starts_with eqb word front) refl).0 at.passed;
+    }
+
+gives : (name value : Text) → is_flag name ≡ true → gives_value (joined name value) ≡ true
+gives name value flag =
+    let word = joined name value in
+    let front = codes "--" ++ name ++ codes "=" in
+    from_flag (λ flag. starts_with eqb word (codes "--" ++ flag ++ codes "=")) name flag
+    ((starts_is Decides-eqb word front (starts_with eqb word front) refl).1 value refl)
 
 plain_bare : (word : Text) → begins_with_hyphen word ≡ false → gives_value word ≡ false
 plain_bare word plain = go (gives_value word) refl
   where
     go : (b : Bool) → gives_value word ≡ b → b ≡ false
     go false e = refl
-    go true e = absurd (true≢false (sym (ap begins_with_hyphen (valued_begins word e)) ∙ plain))
+    go true e = absurd (true≢false (sym (ap begins_with_hyphen (valued_flag word e).is) ∙ plain))
 
 name_bare : (name : Text) → has_byte 61 name ≡ false → gives_value (45 ∷ 45 ∷ name) ≡ false
 name_bare name whole = go (gives_value (45 ∷ 45 ∷ name)) refl
@@ -83,9 +143,9 @@ name_bare name whole = go (gives_value (45 ∷ 45 ∷ name)) refl
     go : (b : Bool) → gives_value (45 ∷ 45 ∷ name) ≡ b → b ≡ false
     go false e = refl
     go true e =
-        let rest = drop 8 (45 ∷ 45 ∷ name) in
-        let same : name ≡ codes "words" ++ 61 ∷ rest = behind_two name (codes "words" ++ 61 ∷ rest) (valued_begins (45 ∷ 45 ∷ name) e) in
-        absurd (true≢false (sym (has_sign (codes "words") rest) ∙ sym (ap (has_byte 61) same) ∙ whole))
+        let flag = valued_flag (45 ∷ 45 ∷ name) e in
+        let same : name ≡ flag.name ++ 61 ∷ flag.value = behind_two name (flag.name ++ 61 ∷ flag.value) (flag.is ∙ joined_is flag.name flag.value) in
+        absurd (true≢false (sym (has_sign flag.name flag.value) ∙ sym (ap (has_byte 61) same) ∙ whole))
 
 joined_bare : (name value : Text) → has_byte 61 name ≡ false → is_flag name ≡ false → gives_value (joined name value) ≡ false
 joined_bare name value whole other = go (gives_value (joined name value)) refl
@@ -93,30 +153,33 @@ joined_bare name value whole other = go (gives_value (joined name value)) refl
     go : (b : Bool) → gives_value (joined name value) ≡ b → b ≡ false
     go false e = refl
     go true e =
-        let rest = drop 8 (joined name value) in
-        let same : name ++ 61 ∷ value ≡ codes "words" ++ 61 ∷ rest
-        = behind_two (name ++ 61 ∷ value) (codes "words" ++ 61 ∷ rest) (sym (joined_is name value) ∙ valued_begins (joined name value) e) in
-        absurd (true≢false (sym (ap is_flag (flag_before name value rest whole same).0) ∙ other))
+        let flag = valued_flag (joined name value) e in
+        let same : name ++ 61 ∷ value ≡ flag.name ++ 61 ∷ flag.value
+        = behind_two (name ++ 61 ∷ value) (flag.name ++ 61 ∷ flag.value) (sym (joined_is name value) ∙ flag.is ∙ joined_is flag.name flag.value) in
+        let names = parted name flag.name value flag.value whole (no_sign_in flag.name (flag_is_name flag.name flag.flag)) same in
+        absurd (true≢false (sym flag.flag ∙ sym (ap is_flag names.0) ∙ other))
 
 -- ---- the words of one item
 
--- no word of an item gives the flag a value
+-- no word of an item gives a flag a value
 bare_words : (item : Item) (words : List Text) → is_name item.name ≡ true → SpellsItem item words → list_any gives_value words ≡ false
 bare_words item words named (inl flag) =
-    subst (λ ws. list_any gives_value ws ≡ false) (sym flag.is) (rw (name_bare item.name (no_sign_in item.name named)) refl)
+    subst (λ ws. list_any gives_value ws ≡ false) (sym flag.is) (ap (λ b. b || false) (name_bare item.name (no_sign_in item.name named)))
 bare_words item words named (inr (other, inl one)) =
-    subst (λ ws. list_any gives_value ws ≡ false) (sym one) (rw (joined_bare item.name item.value (no_sign_in item.name named) other) refl)
+    subst (λ ws. list_any gives_value ws ≡ false) (sym one)
+    (ap (λ b. b || false) (joined_bare item.name item.value (no_sign_in item.name named) other))
 bare_words item words named (inr (other, inr two)) =
-    subst (λ ws. list_any gives_value ws ≡ false) (sym two.0) (rw (name_bare item.name (no_sign_in item.name named), plain_bare item.value two.1) refl)
+    subst (λ ws. list_any gives_value ws ≡ false) (sym two.0)
+    (ap₂ (λ a b. a || (b || false)) (name_bare item.name (no_sign_in item.name named)) (plain_bare item.value two.1))
 
 -- an item as `clap` is given it
 told_item : (item : Item) (words : List Text) → SpellsItem item words → SpellsOption item (map told_word words)
 told_item item words (inl flag) =
-    let name : item.name ≡ codes "words" = same_text item.name (codes "words") flag.flag in
+    let word = codes "--" ++ item.name in
     inl
     (ap (map told_word) flag.is
-    ∙ ap (λ n. told_word (45 ∷ 45 ∷ n) ∷ []) name
-    ∙ sym (ap₂ (λ n v. joined n v ∷ []) name flag.no_value))
+    ∙ ap (λ w. w ∷ []) (with_sign word flag.flag ∙ sym (append-nil (word ++ codes "=")))
+    ∙ sym (ap (λ v. joined item.name v ∷ []) flag.no_value))
 told_item item words (inr (other, inl one)) =
     inl (ap (map told_word) one ∙ ap (λ w. w ∷ []) (as_it_is (joined item.name item.value) (joined_other item.name item.value)))
 told_item item words (inr (other, inr two)) =
@@ -132,41 +195,44 @@ head_is x y xs ys e = cc
 tail_is : (x y : Text) (xs ys : List Text) → x ∷ xs ≡ y ∷ ys → xs ≡ ys
 tail_is x y xs ys e = cc
 
+-- a flag as `clap` is given it
+told_flag : (word : Text) (flag : is_flag_word word ≡ true) → told_word word ≡ 45 ∷ 45 ∷ ((flag_word word flag).name ++ 61 ∷ [])
+told_flag word flag = with_sign word flag ∙ ap (λ w. w ++ codes "=") (flag_word word flag).is
+
 -- and the item that is so given
 item_in_one : (item : Item) (word : Text) → has_byte 61 item.name ≡ false → gives_value word ≡ false → told_word word ≡ joined item.name item.value
     → SpellsItem item (word ∷ [])
-item_in_one item word whole bare told = go (bytes_eq word (codes "--words")) refl (is_flag item.name) refl
+item_in_one item word whole bare told = go (is_flag_word word) refl (is_flag item.name) refl
   where
-    go : (b : Bool) → bytes_eq word (codes "--words") ≡ b → (f : Bool) → is_flag item.name ≡ f → SpellsItem item (word ∷ [])
+    go : (b : Bool) → is_flag_word word ≡ b → (f : Bool) → is_flag item.name ≡ f → SpellsItem item (word ∷ [])
     go true is f named =
-        let given : codes "--words=" ≡ joined item.name item.value = rw is at told in
-        let both = flag_before item.name item.value [] whole (sym (behind_two (codes "words" ++ 61 ∷ []) (item.name ++ 61 ∷ item.value) (given ∙ joined_is item.name item.value))) in
+        let flag = flag_word word is in
+        let given : item.name ++ 61 ∷ item.value ≡ flag.name ++ 61 ∷ []
+        = behind_two (item.name ++ 61 ∷ item.value) (flag.name ++ 61 ∷ []) (sym (joined_is item.name item.value) ∙ sym told ∙ told_flag word is) in
+        let both = parted item.name flag.name item.value [] whole (no_sign_in flag.name flag.named) given in
         inl (record {
-          flag = ap is_flag both.0;
+          flag = ap is_flag both.0 ∙ flag.flag;
           no_value = both.1;
-          is = ap (λ w. w ∷ []) (same_text word (codes "--words") is ∙ sym (ap (λ n. 45 ∷ 45 ∷ n) both.0));
+          is = ap (λ w. w ∷ []) (flag.is ∙ sym (ap (λ n. 45 ∷ 45 ∷ n) both.0));
         })
     go false is true named =
-        let same : word ≡ codes "--words=" ++ item.value
-        = sym (as_it_is word is) ∙ told ∙ ap (λ n. joined n item.value) (same_text item.name (codes "words") named) in
-        absurd (true≢false (sym (begins_valued word item.value same) ∙ bare))
+        absurd (true≢false (sym (gives item.name item.value named) ∙ ap gives_value (sym told ∙ as_it_is word is) ∙ bare))
     go false is false named = inr (named, inl (ap (λ w. w ∷ []) (sym (as_it_is word is) ∙ told)))
 
 item_in_two : (item : Item) (word value : Text) → has_byte 61 item.name ≡ false → told_word word ≡ codes "--" ++ item.name → told_word value ≡ item.value
     → begins_with_hyphen item.value ≡ false → SpellsItem item (word ∷ value ∷ [])
-item_in_two item word value whole told told_value plain = go (bytes_eq word (codes "--words")) refl (bytes_eq value (codes "--words")) refl (is_flag item.name) refl
+item_in_two item word value whole told told_value plain = go (is_flag_word word) refl (is_flag_word value) refl (is_flag item.name) refl
   where
-    go : (b : Bool) → bytes_eq word (codes "--words") ≡ b → (v : Bool) → bytes_eq value (codes "--words") ≡ v → (f : Bool) → is_flag item.name ≡ f
+    go : (b : Bool) → is_flag_word word ≡ b → (v : Bool) → is_flag_word value ≡ v → (f : Bool) → is_flag item.name ≡ f
         → SpellsItem item (word ∷ value ∷ [])
     go true is v is_v f named =
-        let given : codes "--words=" ≡ 45 ∷ 45 ∷ item.name = rw is at told in
-        absurd (true≢false (ap (has_byte 61) (behind_two (codes "words=") item.name given) ∙ whole))
-    go false is true is_v f named =
-        let given : codes "--words=" ≡ item.value = rw is_v at told_value in
-        absurd (true≢false (ap begins_with_hyphen given ∙ plain))
+        let name = (flag_word word is).name in
+        let given : name ++ 61 ∷ [] ≡ item.name = behind_two (name ++ 61 ∷ []) item.name (sym (told_flag word is) ∙ told) in
+        absurd (true≢false (sym (has_sign name []) ∙ ap (has_byte 61) given ∙ whole))
+    go false is true is_v f named = absurd (true≢false (ap begins_with_hyphen (sym (told_flag value is_v) ∙ told_value) ∙ plain))
     go false is false is_v true named =
-        let same : word ≡ codes "--words" = sym (as_it_is word is) ∙ told ∙ ap (λ n. 45 ∷ 45 ∷ n) (same_text item.name (codes "words") named) in
-        absurd (true≢false (sym (ap (λ w. bytes_eq w (codes "--words")) same) ∙ is))
+        let same : word ≡ 45 ∷ 45 ∷ item.name = sym (as_it_is word is) ∙ told in
+        absurd (true≢false (sym named ∙ sym (ap is_flag_word same) ∙ is))
     go false is false is_v false named =
         inr (named, inr (ap₂ (λ w v. w ∷ v ∷ []) (sym (as_it_is word is) ∙ told) (sym (as_it_is value is_v) ∙ told_value), plain))
 
@@ -242,10 +308,13 @@ given_all (item ∷ items) words named bare spelled =
 -- ---- words that stand in no plan
 
 told_stray : (word : Text) → is_stray (told_word word) ≡ is_stray word
-told_stray word = go (bytes_eq word (codes "--words")) refl
+told_stray word = go (is_flag_word word) refl
   where
-    go : (b : Bool) → bytes_eq word (codes "--words") ≡ b → is_stray (told_word word) ≡ is_stray word
-    go true e = rw e (sym (ap is_stray (same_text word (codes "--words") e)))
+    go : (b : Bool) → is_flag_word word ≡ b → is_stray (told_word word) ≡ is_stray word
+    go true e =
+        let flag = flag_word word e in
+        let bare : is_stray word ≡ false = ap is_stray (flag.is ∙ ap (λ n. 45 ∷ 45 ∷ n) (sym (append-nil flag.name))) ∙ named_word flag.name [] flag.named in
+        ap is_stray (told_flag word e) ∙ named_word flag.name (codes "=") flag.named ∙ sym bare
     go false e = ap is_stray (as_it_is word e)
 
 told_strays : (words : List Text) → list_any is_stray (map told_word words) ≡ list_any is_stray words

@@ -107,7 +107,7 @@ plain_word : (word : Text) → begins_with_hyphen word ≡ false → is_stray wo
 plain_word [] plain = refl
 plain_word (x ∷ xs) plain = rw plain refl
 
-named_word : (name more : Text) → is_name name ≡ true → is_stray (codes "--" ++ name ++ more) ≡ false
+pub named_word : (name more : Text) → is_name name ≡ true → is_stray (codes "--" ++ name ++ more) ≡ false
 named_word [] more named = absurd (true≢false (sym named))
 named_word (first ∷ rest) more named = refl
 

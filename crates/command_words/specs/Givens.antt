@@ -3,7 +3,7 @@ use Rattle.std.specs.Prelude.{◌≡◌, ◌≢◌, List, [], ◌∷◌, ◌++�
 use Rattle.std.specs.List.{All, Contains}
 use Rattle.std.specs.Borrow.{Bor}
 use Rattle.command_words.specs.Items.{Text, Item, SpellsOption}
-use Rattle.command_words.specs.Plans.{options_of, value_in}
+use Rattle.command_words.specs.Plans.{AreApart, options_of, value_in}
 use Rattle.command_words.specs.declared.plan.Program.{Program}
 use Rattle.command_words.specs.declared.options.OptionTexts.{OptionTexts}
 
@@ -35,4 +35,11 @@ pub record HasValues (program : Program) (words : List Text) (given : OptionText
   pub rects : text_of given.rects ≡ value_in items (codes "rects")
   pub image : text_of given.image ≡ value_in items (codes "image")
   pub make : text_of given.make ≡ value_in items (codes "make")
-  pub flag : text_of given.words ≡ value_in items (codes "words")
+  pub words_given : text_of given.words ≡ value_in items (codes "words")
+  pub cells_given : text_of given.xy ≡ value_in items (codes "xy")
+
+-- where a seed is given, no image's name is given and no flag
+pub record IsSeedApart (given : OptionTexts) : Type 0 where
+  pub image : AreApart (text_of given.image) (text_of given.make)
+  pub words : AreApart (text_of given.words) (text_of given.make)
+  pub cells : AreApart (text_of given.xy) (text_of given.make)

@@ -1,5 +1,6 @@
 -- A list of words as items: options with their values, and flags.
 use Rattle.std.specs.Str.{bytes_eq}
+use Rattle.std.specs.List.{list_any}
 use Rattle.std.specs.Prelude.{◌≡◌, ◌⊎◌, ◌==◌, ℕ, Bool, true, false, List, [], ◌∷◌, ◌++◌, codes}
 
 -- The bytes of a text.
@@ -16,9 +17,13 @@ abbrev pub begins_with_hyphen : Text → Bool
 begins_with_hyphen [] = false
 begins_with_hyphen (byte ∷ rest) = byte == 45
 
+-- The flags, each by its name.
+abbrev pub flags : List Text
+flags = codes "words" ∷ codes "xy" ∷ []
+
 -- The option takes no value.
 abbrev pub is_flag : Text → Bool
-is_flag name = bytes_eq name (codes "words")
+is_flag name = list_any (bytes_eq name) flags
 
 -- The words spell an option with its value: `--name=value`, or `--name` and the value in a word of its own, which
 -- then does not begin with a hyphen.

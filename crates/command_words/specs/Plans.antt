@@ -1,8 +1,8 @@
 -- The plan of a list of words.
-use Rattle.std.specs.Prelude.{◌≡◌, ◌≢◌, ◌⊎◌, ℕ, List, [], ◌∷◌, codes, Option, None, is_some, find, option_map, AllPairs}
+use Rattle.std.specs.Prelude.{◌≡◌, ◌≢◌, ◌⊎◌, ℕ, List, ◌∷◌, codes, Option, None, is_some, find, option_map, AllPairs}
 use Rattle.std.specs.List.{All, Contains}
 use Rattle.std.specs.Str.{bytes_eq}
-use Rattle.command_words.specs.Items.{Text, Item, SpellsItems}
+use Rattle.command_words.specs.Items.{Text, Item, SpellsItems, flags}
 use Rattle.command_words.specs.Values.{IsNumberOf, IsImageOf, IsSeedOf}
 use Rattle.layout_limits.specs.declared.TheConstants.{MAX_RECTS, MAX_WORKERS}
 use Rattle.command_words.specs.declared.plan.TheConstants.{USUAL_RECTS, USUAL_WORKERS}
@@ -10,10 +10,10 @@ use Rattle.command_words.specs.declared.plan.Program.{Program}
 use Rattle.command_words.specs.declared.plan.Program.TheVariants.{Alone, Shared}
 use Rattle.command_words.specs.declared.plan.Plan.{Plan}
 
--- The options that a program has.
+-- The options that a program has, the flags among them.
 abbrev pub options_of : Program → List Text
-options_of Alone = codes "rects" ∷ codes "image" ∷ codes "make" ∷ codes "words" ∷ []
-options_of Shared = codes "workers" ∷ codes "rects" ∷ codes "image" ∷ codes "make" ∷ codes "words" ∷ []
+options_of Alone = codes "rects" ∷ codes "image" ∷ codes "make" ∷ flags
+options_of Shared = codes "workers" ∷ codes "rects" ∷ codes "image" ∷ codes "make" ∷ flags
 
 -- The words are these items, of options that the program has, each at most once.
 pub record HasItems (program : Program) (words : List Text) (items : List Item) : Type 0 where
@@ -43,8 +43,10 @@ pub record HasPlan (program : Program) (words : List Text) (plan : Plan) : Type 
   pub image : IsImageOf (value_in items (codes "image")) plan.image
   pub make : IsSeedOf (value_in items (codes "make")) plan.make
   pub shows_words : plan.words ≡ is_some (value_in items (codes "words"))
+  pub shows_cells : plan.xy ≡ is_some (value_in items (codes "xy"))
   pub apart : AreApart (value_in items (codes "image")) (value_in items (codes "make"))
   pub words_apart : AreApart (value_in items (codes "words")) (value_in items (codes "make"))
+  pub cells_apart : AreApart (value_in items (codes "xy")) (value_in items (codes "make"))
 
 -- The words have no plan.
 abbrev pub HasNoPlan : Program → List Text → Type 0

@@ -1,8 +1,8 @@
 //! The options of the command line as they are written, read by `clap`.
-ghost use Rattle.std.specs.Prelude.{◌≡◌, ◌≢◌, IfOk, IfErr, List, [], false};
+ghost use Rattle.std.specs.Prelude.{◌≡◌, ◌≢◌, IfOk, IfErr, List, [], false, fold, map};
 ghost use Rattle.std.specs.List.{list_any};
 ghost use Rattle.clap.specs.Words.{app_of, fault_of, found_of, kind_of, matches_of, rows_of, with_rule};
-ghost use Rattle.command_words.specs.Items.{Item};
+ghost use Rattle.command_words.specs.Items.{Item, flags};
 ghost use Rattle.command_words.specs.Givens.{HasOptions, HasValues, texts_of};
 ghost use Rattle.command_words.specs.Commands.{app_for, app_with, option_rule};
 ghost use Rattle.command_words.specs.Strays.{is_stray};
@@ -26,6 +26,8 @@ pub struct OptionTexts<'a> {
     pub make: Option<&'a str>,
     /// Nothing, where the words of the lines shall be shown.
     pub words: Option<&'a str>,
+    /// Nothing, where the cells of the pages shall be shown.
+    pub xy: Option<&'a str>,
 }
 
 /// The command without an option, without help and without a word for the program.
@@ -48,6 +50,14 @@ fn with_option<'a>(
     command.arg(Arg::new(alloc, name).long(name))
 }
 
+/// The command with the flags, each as an option, which `clap` is given with an empty value.
+fn with_flags<'a>(alloc: Global, command: Command<'a>) -> Result<Command<'a>, OutOfMemory>
+    ensures app { IfOk result (λ more. app_of more ≡ fold with_rule (app_of command.entry) (map option_rule flags)) }
+{
+    let first = with_option(alloc, command, "words")?;
+    with_option(alloc, first, "xy")
+}
+
 /// The command with the options of the program.
 fn command<'a>(alloc: Global, program: Program) -> Result<Command<'a>, OutOfMemory>
     ensures app { IfOk result (λ command. app_of command ≡ app_for program) }
@@ -60,7 +70,7 @@ fn command<'a>(alloc: Global, program: Program) -> Result<Command<'a>, OutOfMemo
     let second = with_option(alloc, first, "rects")?;
     let third = with_option(alloc, second, "image")?;
     let fourth = with_option(alloc, third, "make")?;
-    with_option(alloc, fourth, "words")
+    with_flags(alloc, fourth)
 }
 
 /// The fault of the words, by the kind of `clap`'s error.
@@ -109,5 +119,6 @@ pub fn read_options<'a>(
         image: matches.get_str("image"),
         make: matches.get_str("make"),
         words: matches.get_str("words"),
+        xy: matches.get_str("xy"),
     })
 }

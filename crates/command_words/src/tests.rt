@@ -230,23 +230,37 @@ fn workers_of_the_shared_program(rt: HostRuntime) -> Result<(), Fail> {
 }
 
 #[test]
-fn the_flag_stands_once_alone_and_without_a_seed(rt: HostRuntime) -> Result<(), Fail> {
-    let lines: [(&[&str], bool, u16); 6] = [
-        (&[], false, 32),
-        (&["--words"], true, 32),
-        (&["--words", "--rects", "2"], true, 2),
-        (&["--rects=2", "--words", "--image", "a"], true, 2),
-        (&["--image", "words", "--rects=3"], false, 3),
-        (&["--image=--words"], false, 32),
+fn a_flag_stands_once_alone_and_without_a_seed(rt: HostRuntime) -> Result<(), Fail> {
+    let lines: [(&[&str], [bool; 2], u16); 9] = [
+        (&[], [false, false], 32),
+        (&["--words"], [true, false], 32),
+        (&["--xy"], [false, true], 32),
+        (&["--xy", "--words"], [true, true], 32),
+        (&["--words", "--rects", "2", "--xy"], [true, true], 2),
+        (&["--rects=2", "--words", "--image", "a"], [true, false], 2),
+        (&["--image", "words", "--rects=3"], [false, false], 3),
+        (&["--image=--words"], [false, false], 32),
+        (&["--image=--xy", "--xy"], [false, true], 32),
     ];
     let programs = [Program::Alone, Program::Shared];
     for (words, shown, rects) in lines {
         for program in programs {
             let plan = plan(rt.alloc(), words, program)?;
-            assert_eq!(rt; (plan.words, plan.rects), (shown, rects), "{words:?}");
+            assert_eq!(rt;
+                ([plan.words, plan.xy], plan.rects),
+                (shown, rects),
+                "{words:?}"
+            );
         }
     }
-    let refused: [&[&str]; 9] = [
+    let refused: [&[&str]; 16] = [
+        &["--xy", "--xy"],
+        &["--xy", "--words", "--xy"],
+        &["--xy=1"],
+        &["--xy="],
+        &["--xy", "--make", "7"],
+        &["--make=7", "--words", "--xy"],
+        &["--x"],
         &["--words", "--words"],
         &["--words", "--rects", "2", "--words"],
         &["--words=x"],

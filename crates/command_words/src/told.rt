@@ -20,11 +20,12 @@ fn is_stray_word(word: &str) -> bool
     }
 }
 
-/// Whether a word gives the flag a value.
+/// Whether a word gives a flag a value.
 fn is_valued(word: &str) -> bool
     ensures value { result ≡ gives_value word.now }
 {
-    word.as_bytes().starts_with(b"--words=")
+    let bytes = word.as_bytes();
+    bytes.starts_with(b"--words=") || bytes.starts_with(b"--xy=")
 }
 
 /// Whether a word stands in no plan, though `clap` may take it.
@@ -41,11 +42,15 @@ fn has_refused(words: &[String]) -> bool
     words.iter().any(|word| is_refused_word(word.as_str()))
 }
 
-/// A word as `clap` is given it: the flag has an empty value.
+/// A word as `clap` is given it: a flag has an empty value.
 fn told(word: &str) -> &str
     ensures told { result.now ≡ told_word word.now }
 {
-    if word == "--words" { "--words=" } else { word }
+    match word {
+        "--words" => "--words=",
+        "--xy" => "--xy=",
+        _ => word,
+    }
 }
 
 /// The words as `clap` is given them.

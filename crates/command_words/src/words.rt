@@ -1,12 +1,12 @@
 //! The plan of the words.
 ghost use Rattle.std.specs.Prelude.{◌≡◌, ◌≤◌, ◌↔◌, IfOk, IfErr, IsTrue, All, length, map, string_bytes};
 ghost use Rattle.command_words.specs.Plans.{AreApart, HasPlan, HasNoPlan, usual_workers};
-ghost use Rattle.command_words.specs.Givens.{text_of};
+ghost use Rattle.command_words.specs.Givens.{IsSeedApart, text_of};
 ghost use Rattle.command_words.specs.Values.{IsNameByte};
 
 use crate::image::image_or_none;
 use crate::number::{number_or, seed_or_none};
-use crate::options::read_options;
+use crate::options::{OptionTexts, read_options};
 use crate::plan::{MAX_NAME_BYTES, Plan, Program, USUAL_RECTS, USUAL_WORKERS, WordFault};
 use crate::told::told_words;
 use layout_limits::{MAX_RECTS, MAX_WORKERS};
@@ -29,6 +29,15 @@ fn are_apart(first: Option<&str>, second: Option<&str>) -> bool
     first.is_none() || second.is_none()
 }
 
+/// Whether no image's name and no flag is given beside a seed.
+fn is_seed_apart(given: &OptionTexts) -> bool
+    ensures apart { IsTrue result ↔ IsSeedApart given.now }
+{
+    are_apart(given.image, given.make)
+        && are_apart(given.words, given.make)
+        && are_apart(given.xy, given.make)
+}
+
 /// The plan of the words behind the program's name, or `Usage` exactly where they have none.
 pub fn words_of(alloc: Global, words: &[String], program: Program) -> Result<Plan, WordFault>
     ensures plan { IfOk result (HasPlan program (map string_bytes words.now)) }
@@ -40,10 +49,7 @@ pub fn words_of(alloc: Global, words: &[String], program: Program) -> Result<Pla
 {
     let told = told_words(alloc, words)?;
     let given = read_options(alloc, &told, program)?;
-    if !are_apart(given.image, given.make) {
-        return Err(WordFault::Usage);
-    }
-    if !are_apart(given.words, given.make) {
+    if !is_seed_apart(&given) {
         return Err(WordFault::Usage);
     }
     let workers = number_or(given.workers, workers_of(program), MAX_WORKERS)?;
@@ -56,5 +62,6 @@ pub fn words_of(alloc: Global, words: &[String], program: Program) -> Result<Pla
         image,
         make,
         words: given.words.is_some(),
+        xy: given.xy.is_some(),
     })
 }

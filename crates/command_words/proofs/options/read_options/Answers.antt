@@ -18,5 +18,6 @@ returns-clause-values c =
       rects = value_given c.args.program _ p c.in_ok-matches.matches (codes "rects") c.get_str-2.result found.1 c.get_str-2.ensures;
       image = value_given c.args.program _ p c.in_ok-matches.matches (codes "image") c.get_str-3.result found.1 c.get_str-3.ensures;
       make = value_given c.args.program _ p c.in_ok-matches.matches (codes "make") c.get_str-4.result found.1 c.get_str-4.ensures;
-      flag = value_given c.args.program _ p c.in_ok-matches.matches (codes "words") c.get_str-5.result found.1 c.get_str-5.ensures;
+      words_given = value_given c.args.program _ p c.in_ok-matches.matches (codes "words") c.get_str-5.result found.1 c.get_str-5.ensures;
+      cells_given = value_given c.args.program _ p c.in_ok-matches.matches (codes "xy") c.get_str-6.result found.1 c.get_str-6.ensures;
     }

@@ -13,7 +13,7 @@ use Rattle.command_words.specs.Strays.{is_refused, is_stray, told_word}
 use Rattle.command_words.specs.declared.options.OptionTexts.{OptionTexts}
 use Rattle.command_words.specs.declared.plan.Program.{Program}
 use Rattle.command_words.proofs.Flags.{given_items, items_unrefused_words, told_items, told_plain}
-use Rattle.command_words.proofs.Deciding.{flag_not_apart, no_plan, not_apart}
+use Rattle.command_words.proofs.Deciding.{no_plan, not_apart}
 use Rattle.command_words.proofs.words.words_of.Goals as goal
 
 -- what was told of the words, where their texts are those that `clap` was given
@@ -43,15 +43,10 @@ returns-in_err-given-clause-usage c =
     passed_up _ _ _ c.from_residual-in_err-given.ensures.1
     (λ is. refused_texts c.args.program _ c.deref.result.now _ c.deref.ensures.value c.in_ok-told.ensures.told (c.in_err-given.ensures.usage is))
 
-pub returns-then-not-are_apart-clause-usage : goal.returns-then-not-are_apart-clause-usage
-returns-then-not-are_apart-clause-usage c = λ is.
+pub returns-then-not-is_seed_apart-clause-usage : goal.returns-then-not-is_seed_apart-clause-usage
+returns-then-not-is_seed_apart-clause-usage c = λ is.
     not_apart c.args.program _ c.in_ok-given.given (values_of c.args.program _ c.deref.result.now _ c.in_ok-given.given c.deref.ensures.value c.in_ok-told.ensures.told c.in_ok-given.ensures.values)
-    (λ apart. true≢false (sym (c.are_apart.ensures.apart.1 apart) ∙ c.if-not-are_apart.true))
-
-pub returns-then-not-are_apart-2-clause-usage : goal.returns-then-not-are_apart-2-clause-usage
-returns-then-not-are_apart-2-clause-usage c = λ is.
-    flag_not_apart c.args.program _ c.in_ok-given.given (values_of c.args.program _ c.deref.result.now _ c.in_ok-given.given c.deref.ensures.value c.in_ok-told.ensures.told c.in_ok-given.ensures.values)
-    (λ apart. true≢false (sym (c.are_apart-2.ensures.apart.1 apart) ∙ c.if-not-are_apart-2.true))
+    (λ apart. true≢false (sym (c.is_seed_apart.ensures.apart.1 apart) ∙ c.if-not-is_seed_apart.true))
 
 pub returns-in_err-workers-clause-usage : goal.returns-in_err-workers-clause-usage
 returns-in_err-workers-clause-usage c =
@@ -88,6 +83,8 @@ returns-clause-plan c =
       image = search rules;
       make = search rules;
       shows_words = search rules;
+      shows_cells = search rules;
       apart = search rules;
       words_apart = search rules;
+      cells_apart = search rules;
     }
