@@ -10,6 +10,7 @@ use Rattle.hocr_writer.specs.declared.layout.Layout.{Layout}
 use Rattle.hocr_writer.specs.Pieces.{joined_pieces, numbered_pieces, box_front}
 use Rattle.hocr_writer.specs.Listing.{listing_of}
 use Rattle.hocr_writer.specs.Lines.{line_of}
+use Rattle.hocr_writer.specs.Cells.{cell_line}
 
 -- The number of a line of a cycle, behind a space, whatever its place there.
 abbrev pub cycle_number : ℕ → ℕ → List ℕ
@@ -136,6 +137,7 @@ page_text layout =
     (page_line layout
     ∷ joined_pieces (numbered_pieces (white_line layout.page) 0 layout.whites)
     ∷ joined_pieces (numbered_pieces (gutter_line layout.page) 0 layout.gutters)
+    ∷ joined_pieces (numbered_pieces (cell_line layout.page) 0 layout.cells)
     ∷ joined_pieces (numbered_pieces (area_text layout) 0 layout.areas)
     ∷ codes "</div>\n"
     ∷ [])

@@ -6,6 +6,7 @@ ghost use Rattle.hocr_writer.specs.Document.{image_text, page_line, white_line, 
 
 use crate::areas::put_areas;
 use crate::boxes::put_box_lines;
+use crate::cells::put_cells;
 use crate::layout::{Layout, Layouts};
 use crate::order::put_order_lines;
 use crate::text::TextBuffer;
@@ -118,6 +119,7 @@ fn put_page(text: &mut TextBuffer, layout: &Layout) -> Result<(), OutOfMemory>
     put_page_line(text, layout)?;
     put_whites(text, layout)?;
     put_gutters(text, layout)?;
+    put_cells(text, layout.page, &layout.cells)?;
     put_areas(text, layout)?;
     text.push(b"</div>\n")?;
     Ok(())
@@ -160,11 +162,13 @@ fn document_text(alloc: Global, layouts: &[Layout]) -> Result<Vec<u8>, OutOfMemo
 
 /// The document of the layout of an input's one page, in the manner of hOCR 1.2: an HTML file whose
 /// `ocr_page` element has the name of the page's image, its box, number and count of black pixels in
-/// its title. In it stand the white rectangles, then the gutters, and then the areas in the order of
-/// the listing, each with its half-open `bbox` of pixels. An area holds its lines, each with its
-/// `baseline`: the slope, with three decimals, and how far below the bottom edge of the line's box it
-/// begins at the left edge. Where the line of its descenders lies below the baseline, `x_depth` says
-/// by how many rows. Where the words of the lines are shown, they stand in their lines, each with its `bbox`.
+/// its title. In it stand the white rectangles, then the gutters, then the cells, and then the areas
+/// in the order of the listing, each with its half-open `bbox` of pixels. A cell has its path as
+/// `x_path`: the digit 0 or 1 for each cut, or `r` where there is none. An area holds its lines, each
+/// with its `baseline`: the slope, with three decimals, and how far below the bottom edge of the
+/// line's box it begins at the left edge. Where the line of its descenders lies below the baseline,
+/// `x_depth` says by how many rows. Where the words of the lines are shown, they stand in their
+/// lines, each with its `bbox`.
 ///
 /// The text is ASCII where the name of the image is, and each of its lines ends with one line feed.
 ///

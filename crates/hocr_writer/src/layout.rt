@@ -1,5 +1,6 @@
 //! What was found on a page: what its document tells.
 use layout_geom::{Areas, Items, Name, Order, Rect, Rects};
+use xy_cut::Cells;
 
 /// A text line as the document shows it.
 #[derive(Clone, Copy, Debug, PartialEq, Eq)]
@@ -44,6 +45,10 @@ pub struct Layout {
     /// The white rectangles that are gutters between columns of text. The k-th, from 0, is an element
     /// `ocr_separator`, with the `id` `gutter_` and the page's number, `_` and k.
     pub gutters: Rects,
+    /// The cells that the boxes of the page fall into, in the order of their paths. The k-th, from 0, is
+    /// an element `ocrx_cell`, with the `id` `cell_` and the page's number, `_` and k. Its property
+    /// `x_path` is its path: the digit 0 or 1 for each cut, or `r` where there is none.
+    pub cells: Cells,
     /// The text lines, by their numbers. The one of number n is an element `ocr_line`, with the `id`
     /// `line_` and the page's number, `_` and n.
     pub lines: Marks,

@@ -3,6 +3,7 @@
 
 mod areas;
 mod boxes;
+mod cells;
 mod document;
 mod layout;
 mod lines;

@@ -6,6 +6,7 @@ use crate::{Layout, Layouts, Mark, Marks, WordRows, hocr_text, pages_text, summa
 use layout_geom::{Area, Areas, Name, Numbers, Order, Rect, Rects};
 use std::alloc::Global;
 use std::test::Fail;
+use xy_cut::{Cell, Cells, Path, Side};
 
 type Sides = [u16; 4];
 
@@ -18,6 +19,8 @@ struct Case {
     image: &'static [u8],
     whites: &'static [Sides],
     gutters: &'static [Sides],
+    // The path and the box of each cell.
+    cells: &'static [(&'static [Side], Sides)],
     // The box, the slope, the offset and the depth of each line.
     lines: &'static [(Sides, i8, i16, u8)],
     is_cycle: bool,
@@ -42,6 +45,7 @@ const SLANTED_LINES: Case = Case {
     image: b"scan.pbm",
     whites: &[],
     gutters: &[],
+    cells: &[],
     lines: &[
         ([0, 20, 1010, 40], 10, 30, 0),
         ([0, 20, 1010, 40], -10, 41, 0),
@@ -72,7 +76,7 @@ lines 2\nareas 2\norder topological\n",
     ],
 };
 
-// Two white rectangles, of which one is a gutter; three lines and a cycle of two of them, which is not in rising order.
+// Two white rectangles, of which one is a gutter; two cells, at the ends of no cut and of two; three lines and a cycle of two of them, which is not in rising order.
 const CYCLE: Case = Case {
     name: "cycle",
     page: 0,
@@ -81,6 +85,10 @@ const CYCLE: Case = Case {
     image: b"",
     whites: &[[0, 10, 100, 20], [70, 0, 80, 60]],
     gutters: &[[70, 0, 80, 60]],
+    cells: &[
+        (&[], [0, 0, 60, 50]),
+        (&[Side::Before, Side::After], [40, 40, 60, 50]),
+    ],
     lines: &[
         ([0, 0, 60, 10], 0, 10, 0),
         ([0, 20, 60, 30], 32, 31, 0),
@@ -95,6 +103,8 @@ const CYCLE: Case = Case {
 <div class='ocrx_whitespace' id='white_0_0' title='bbox 0 10 100 20'></div>\n\
 <div class='ocrx_whitespace' id='white_0_1' title='bbox 70 0 80 60'></div>\n\
 <div class='ocr_separator' id='gutter_0_0' title='bbox 70 0 80 60'></div>\n\
+<div class='ocrx_cell' id='cell_0_0' title='bbox 0 0 60 50; x_path r'></div>\n\
+<div class='ocrx_cell' id='cell_0_1' title='bbox 40 40 60 50; x_path 01'></div>\n\
 <div class='ocr_carea' id='area_0_0' title='bbox 0 0 60 30'>\n\
 <span class='ocr_line' id='line_0_0' title='bbox 0 0 60 10; baseline 0.000 0'></span>\n\
 <span class='ocr_line' id='line_0_1' title='bbox 0 20 60 30; baseline 0.032 1'></span>\n\
@@ -117,6 +127,7 @@ const LETTERS_WITH_TAILS: Case = Case {
     image: b"",
     whites: &[],
     gutters: &[],
+    cells: &[],
     lines: &[([10, 10, 100, 34], 0, 30, 4)],
     is_cycle: false,
     order: &[0],
@@ -178,6 +189,22 @@ fn marks(alloc: Global, lines: &[(Sides, i8, i16, u8)]) -> Result<Marks, Fail> {
     Ok(marks)
 }
 
+fn cells(alloc: Global, rows: &[(&[Side], Sides)]) -> Result<Cells, Fail> {
+    let mut cells = Cells::new(alloc);
+    for (sides, bbox) in rows {
+        let mut path = Path::new(alloc);
+        for side in sides.iter() {
+            path.push(*side)?;
+        }
+        cells.push(Cell {
+            path,
+            count: 1,
+            bbox: rect(bbox)?,
+        })?;
+    }
+    Ok(cells)
+}
+
 fn word_rows(alloc: Global, rows: &[&[Sides]]) -> Result<WordRows, Fail> {
     let mut words = WordRows::new(alloc);
     for row in rows {
@@ -229,6 +256,7 @@ fn layout_of_case(alloc: Global, case: &Case) -> Result<Layout, Fail> {
         image: name(alloc, case.image)?,
         whites: boxes(alloc, case.whites)?,
         gutters: boxes(alloc, case.gutters)?,
+        cells: cells(alloc, case.cells)?,
         lines: marks(alloc, case.lines)?,
         order: order(alloc, case.is_cycle, case.order)?,
         areas: areas(alloc, case.areas)?,
@@ -287,6 +315,7 @@ fn blank_page(alloc: Global, page: u32) -> Result<Layout, Fail> {
         image: Name::new(alloc),
         whites: boxes(alloc, &[[0, 0, 16, 16]])?,
         gutters: Rects::new(alloc),
+        cells: Cells::new(alloc),
         lines: Marks::new(alloc),
         order: order(alloc, false, &[])?,
         areas: Areas::new(alloc),
