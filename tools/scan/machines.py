@@ -61,7 +61,8 @@ def answer_in(file):
 
 def options_of(plan):
     """The words for layout1 by the plan."""
-    return [*([] if plan.rects is None else ["--rects", str(plan.rects)]), *(["--words"] if plan.words else [])]
+    flags = {"--words": plan.words, "--xy": plan.xy}
+    return [*([] if plan.rects is None else ["--rects", str(plan.rects)]), *(flag for flag, asked in flags.items() if asked)]
 
 
 def layouts(pages, program, plan):

@@ -78,9 +78,10 @@ class Drawing:
         return next(layer for layer in self.layers if layer.key == key)
 
 
-KINDS = {"ocrx_whitespace": "white", "ocr_separator": "gutter", "ocr_carea": "area", "ocr_par": "paragraph", "ocrx_word": "word"}
+KINDS = {"ocrx_whitespace": "white", "ocr_separator": "gutter", "ocrx_cell": "cell"}
+KINDS.update({"ocr_carea": "area", "ocr_par": "paragraph", "ocrx_word": "word"})
 KINDS.update({name: "line" for name in LINE_CLASSES})
-NAMES = {"white": "white rectangle", "gutter": "gutter", "area": "area", "paragraph": "paragraph", "line": "text line", "word": "word"}
+NAMES = {"white": "white rectangle", "area": "area", "paragraph": "paragraph", "line": "text line"}  # the others are named by their kind
 
 
 def kind_of(element):
@@ -93,6 +94,7 @@ def empty_layers(cycle):
     return [
         Layer("white", "White rectangles", "#56b4e9", True, False),
         Layer("gutter", "Gutters", "#e69f00", True, False),
+        Layer("cell", "Cells", "#5b4fb5", False, False),
         Layer("other", "Other elements", "#777777", False, False),
         Layer("paragraph", "Paragraphs", "#8a7a00", False, False),
         Layer("area", "Areas", "#009e73", True, False),
@@ -108,7 +110,7 @@ def facts_of(element, place, count):
     """What is told of an element, one sentence an entry. `place` is its place in the reading order, from 1, or None."""
     box = element.box
     kind = kind_of(element)
-    facts = [NAMES.get(kind, element.hocr_class)]
+    facts = [element.hocr_class if kind == "other" else NAMES.get(kind, kind)]
     if kind == "white" and (number := re.search(r"_(\d+)$", element.id)):
         facts[0] += f", found after {number[1]} others"
     if place is not None:
@@ -130,10 +132,16 @@ def unit_of(page):
     return min(max(0.42 * usual, longer / 260), longer / 25)
 
 
-def shape_of(element, unit, place, count):
-    shape = Shape(element, facts_of(element, place, count))
+def label_of(element):
+    """What is written into the element's box: a white rectangle's number, and a cell's path."""
     if kind_of(element) == "white" and (number := re.search(r"_(\d+)$", element.id)):
-        shape.label = number[1]
+        return number[1]
+    return element.properties.get("x_path", "") if kind_of(element) == "cell" else ""
+
+
+def shape_of(element, unit, place, count):
+    shape = Shape(element, facts_of(element, place, count), label_of(element))
+    if shape.label:
         shape.label_size = min(1.6 * unit, 0.6 * min(element.box.width / len(shape.label) * 1.6, element.box.height))
     return shape
 
