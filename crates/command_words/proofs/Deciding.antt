@@ -43,6 +43,7 @@ not_apart program words given values both plan has =
     both (record {
       image = as_given (codes "image") (text_of given.image) values.image has.apart;
       words = as_given (codes "words") (text_of given.words) values.words_given has.words_apart;
+      blocks = as_given (codes "blocks") (text_of given.blocks) values.blocks_given has.blocks_apart;
       cells = as_given (codes "xy") (text_of given.xy) values.cells_given has.cells_apart;
     })
 
@@ -72,5 +73,6 @@ one_plan program words p q has_p has_q =
     (subst (λ is. IsSeedOf (value_in is (codes "make")) p.make) same has_p.make) has_q.make in
     let shows : (name : Text) → is_some (value_in has_p.items name) ≡ is_some (value_in has_q.items name) = λ name. ap (λ is. is_some (value_in is name)) same in
     let shown : p.words ≡ q.words = has_p.shows_words ∙ shows (codes "words") ∙ sym has_q.shows_words in
+    let blocks : p.blocks ≡ q.blocks = has_p.shows_blocks ∙ shows (codes "blocks") ∙ sym has_q.shows_blocks in
     let cells : p.xy ≡ q.xy = has_p.shows_cells ∙ shows (codes "xy") ∙ sym has_q.shows_cells in
-    λ i. record { rects = rects i; workers = workers i; image = image i; make = make i; words = shown i; xy = cells i }
+    λ i. record { rects = rects i; workers = workers i; image = image i; make = make i; words = shown i; blocks = blocks i; xy = cells i }

@@ -36,10 +36,12 @@ pub record HasValues (program : Program) (words : List Text) (given : OptionText
   pub image : text_of given.image ≡ value_in items (codes "image")
   pub make : text_of given.make ≡ value_in items (codes "make")
   pub words_given : text_of given.words ≡ value_in items (codes "words")
+  pub blocks_given : text_of given.blocks ≡ value_in items (codes "blocks")
   pub cells_given : text_of given.xy ≡ value_in items (codes "xy")
 
 -- where a seed is given, no image's name is given and no flag
 pub record IsSeedApart (given : OptionTexts) : Type 0 where
   pub image : AreApart (text_of given.image) (text_of given.make)
   pub words : AreApart (text_of given.words) (text_of given.make)
+  pub blocks : AreApart (text_of given.blocks) (text_of given.make)
   pub cells : AreApart (text_of given.xy) (text_of given.make)

@@ -19,7 +19,7 @@ begins_with_hyphen (byte ∷ rest) = byte == 45
 
 -- The flags, each by its name.
 abbrev pub flags : List Text
-flags = codes "words" ∷ codes "xy" ∷ []
+flags = codes "words" ∷ codes "blocks" ∷ codes "xy" ∷ []
 
 -- The option takes no value.
 abbrev pub is_flag : Text → Bool

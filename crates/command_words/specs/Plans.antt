@@ -43,9 +43,11 @@ pub record HasPlan (program : Program) (words : List Text) (plan : Plan) : Type 
   pub image : IsImageOf (value_in items (codes "image")) plan.image
   pub make : IsSeedOf (value_in items (codes "make")) plan.make
   pub shows_words : plan.words ≡ is_some (value_in items (codes "words"))
+  pub shows_blocks : plan.blocks ≡ is_some (value_in items (codes "blocks"))
   pub shows_cells : plan.xy ≡ is_some (value_in items (codes "xy"))
   pub apart : AreApart (value_in items (codes "image")) (value_in items (codes "make"))
   pub words_apart : AreApart (value_in items (codes "words")) (value_in items (codes "make"))
+  pub blocks_apart : AreApart (value_in items (codes "blocks")) (value_in items (codes "make"))
   pub cells_apart : AreApart (value_in items (codes "xy")) (value_in items (codes "make"))
 
 -- The words have no plan.

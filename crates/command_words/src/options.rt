@@ -26,6 +26,8 @@ pub struct OptionTexts<'a> {
     pub make: Option<&'a str>,
     /// Nothing, where the words of the lines shall be shown.
     pub words: Option<&'a str>,
+    /// Nothing, where the blocks of the pages shall be shown.
+    pub blocks: Option<&'a str>,
     /// Nothing, where the cells of the pages shall be shown.
     pub xy: Option<&'a str>,
 }
@@ -55,7 +57,8 @@ fn with_flags<'a>(alloc: Global, command: Command<'a>) -> Result<Command<'a>, Ou
     ensures app { IfOk result (λ more. app_of more ≡ fold with_rule (app_of command.entry) (map option_rule flags)) }
 {
     let first = with_option(alloc, command, "words")?;
-    with_option(alloc, first, "xy")
+    let second = with_option(alloc, first, "blocks")?;
+    with_option(alloc, second, "xy")
 }
 
 /// The command with the options of the program.
@@ -119,6 +122,7 @@ pub fn read_options<'a>(
         image: matches.get_str("image"),
         make: matches.get_str("make"),
         words: matches.get_str("words"),
+        blocks: matches.get_str("blocks"),
         xy: matches.get_str("xy"),
     })
 }

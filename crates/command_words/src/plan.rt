@@ -41,6 +41,8 @@ pub struct Plan {
     pub make: Option<u64>,
     /// Whether the document shows the words of each line. A plan with a seed does not.
     pub words: bool,
+    /// Whether the document shows the blocks of each page. A plan with a seed does not.
+    pub blocks: bool,
     /// Whether the document shows the cells of each page. A plan with a seed does not.
     pub xy: bool,
 }

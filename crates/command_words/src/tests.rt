@@ -231,29 +231,43 @@ fn workers_of_the_shared_program(rt: HostRuntime) -> Result<(), Fail> {
 
 #[test]
 fn a_flag_stands_once_alone_and_without_a_seed(rt: HostRuntime) -> Result<(), Fail> {
-    let lines: [(&[&str], [bool; 2], u16); 9] = [
-        (&[], [false, false], 32),
-        (&["--words"], [true, false], 32),
-        (&["--xy"], [false, true], 32),
-        (&["--xy", "--words"], [true, true], 32),
-        (&["--words", "--rects", "2", "--xy"], [true, true], 2),
-        (&["--rects=2", "--words", "--image", "a"], [true, false], 2),
-        (&["--image", "words", "--rects=3"], [false, false], 3),
-        (&["--image=--words"], [false, false], 32),
-        (&["--image=--xy", "--xy"], [false, true], 32),
+    let lines: [(&[&str], [bool; 3], u16); 11] = [
+        (&[], [false, false, false], 32),
+        (&["--words"], [true, false, false], 32),
+        (&["--blocks"], [false, true, false], 32),
+        (&["--xy"], [false, false, true], 32),
+        (&["--xy", "--blocks", "--words"], [true, true, true], 32),
+        (&["--words", "--rects", "2", "--xy"], [true, false, true], 2),
+        (
+            &["--rects=2", "--words", "--image", "a"],
+            [true, false, false],
+            2,
+        ),
+        (
+            &["--image", "words", "--rects=3", "--blocks"],
+            [false, true, false],
+            3,
+        ),
+        (&["--image=--words"], [false, false, false], 32),
+        (&["--image=--blocks"], [false, false, false], 32),
+        (&["--image=--xy", "--xy"], [false, false, true], 32),
     ];
     let programs = [Program::Alone, Program::Shared];
     for (words, shown, rects) in lines {
         for program in programs {
             let plan = plan(rt.alloc(), words, program)?;
             assert_eq!(rt;
-                ([plan.words, plan.xy], plan.rects),
+                ([plan.words, plan.blocks, plan.xy], plan.rects),
                 (shown, rects),
                 "{words:?}"
             );
         }
     }
-    let refused: [&[&str]; 16] = [
+    let refused: [&[&str]; 20] = [
+        &["--blocks", "--blocks"],
+        &["--blocks=1"],
+        &["--blocks="],
+        &["--blocks", "--make", "7"],
         &["--xy", "--xy"],
         &["--xy", "--words", "--xy"],
         &["--xy=1"],

@@ -25,7 +25,7 @@ fn is_valued(word: &str) -> bool
     ensures value { result ≡ gives_value word.now }
 {
     let bytes = word.as_bytes();
-    bytes.starts_with(b"--words=") || bytes.starts_with(b"--xy=")
+    bytes.starts_with(b"--words=") || bytes.starts_with(b"--blocks=") || bytes.starts_with(b"--xy=")
 }
 
 /// Whether a word stands in no plan, though `clap` may take it.
@@ -48,6 +48,7 @@ fn told(word: &str) -> &str
 {
     match word {
         "--words" => "--words=",
+        "--blocks" => "--blocks=",
         "--xy" => "--xy=",
         _ => word,
     }

@@ -35,6 +35,7 @@ fn is_seed_apart(given: &OptionTexts) -> bool
 {
     are_apart(given.image, given.make)
         && are_apart(given.words, given.make)
+        && are_apart(given.blocks, given.make)
         && are_apart(given.xy, given.make)
 }
 
@@ -62,6 +63,7 @@ pub fn words_of(alloc: Global, words: &[String], program: Program) -> Result<Pla
         image,
         make,
         words: given.words.is_some(),
+        blocks: given.blocks.is_some(),
         xy: given.xy.is_some(),
     })
 }

@@ -19,5 +19,6 @@ returns-clause-values c =
       image = value_given c.args.program _ p c.in_ok-matches.matches (codes "image") c.get_str-3.result found.1 c.get_str-3.ensures;
       make = value_given c.args.program _ p c.in_ok-matches.matches (codes "make") c.get_str-4.result found.1 c.get_str-4.ensures;
       words_given = value_given c.args.program _ p c.in_ok-matches.matches (codes "words") c.get_str-5.result found.1 c.get_str-5.ensures;
-      cells_given = value_given c.args.program _ p c.in_ok-matches.matches (codes "xy") c.get_str-6.result found.1 c.get_str-6.ensures;
+      blocks_given = value_given c.args.program _ p c.in_ok-matches.matches (codes "blocks") c.get_str-6.result found.1 c.get_str-6.ensures;
+      cells_given = value_given c.args.program _ p c.in_ok-matches.matches (codes "xy") c.get_str-7.result found.1 c.get_str-7.ensures;
     }

@@ -83,8 +83,10 @@ returns-clause-plan c =
       image = search rules;
       make = search rules;
       shows_words = search rules;
+      shows_blocks = search rules;
       shows_cells = search rules;
       apart = search rules;
       words_apart = search rules;
+      blocks_apart = search rules;
       cells_apart = search rules;
     }
