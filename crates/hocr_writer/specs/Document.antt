@@ -72,6 +72,10 @@ white_line page = box_line (codes "<div class='ocrx_whitespace' id='white_") pag
 abbrev pub gutter_line : ℕ → ℕ → Rect → List ℕ
 gutter_line page = box_line (codes "<div class='ocr_separator' id='gutter_") page
 
+-- A block of the page, by its number and its box.
+abbrev pub block_line : ℕ → ℕ → Rect → List ℕ
+block_line page = box_line (codes "<div class='ocrx_block' id='block_") page
+
 -- An area begins, by its number and its box.
 abbrev pub area_line : ℕ → ℕ → Rect → List ℕ
 area_line page number box = joined_pieces (box_front (codes "<div class='ocr_carea' id='area_") page number box ∷ codes "'>\n" ∷ [])
@@ -137,6 +141,7 @@ page_text layout =
     (page_line layout
     ∷ joined_pieces (numbered_pieces (white_line layout.page) 0 layout.whites)
     ∷ joined_pieces (numbered_pieces (gutter_line layout.page) 0 layout.gutters)
+    ∷ joined_pieces (numbered_pieces (block_line layout.page) 0 layout.blocks)
     ∷ joined_pieces (numbered_pieces (cell_line layout.page) 0 layout.cells)
     ∷ joined_pieces (numbered_pieces (area_text layout) 0 layout.areas)
     ∷ codes "</div>\n"

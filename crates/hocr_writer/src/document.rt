@@ -2,7 +2,8 @@
 ghost use Rattle.std.specs.Prelude.{◌≡◌, ◌++◌, ◌∷◌, [], All, OnOk, IfOk};
 ghost use Rattle.hocr_writer.specs.Pieces.{joined_pieces, numbered_pieces};
 ghost use Rattle.hocr_writer.specs.Listing.{IsWholeLayout, AreWholeLayouts};
-ghost use Rattle.hocr_writer.specs.Document.{image_text, page_line, white_line, gutter_line, shows_words, word_kind, capabilities_line, head_text, page_text, placed_page, document_of};
+ghost use Rattle.hocr_writer.specs.Document.{image_text, page_line, white_line, gutter_line, block_line, page_text};
+ghost use Rattle.hocr_writer.specs.Document.{shows_words, word_kind, capabilities_line, head_text, placed_page, document_of};
 
 use crate::areas::put_areas;
 use crate::boxes::put_box_lines;
@@ -68,6 +69,15 @@ fn put_gutters(text: &mut TextBuffer, layout: &Layout) -> Result<(), OutOfMemory
     put_box_lines(text, opening, layout.page, &layout.gutters)
 }
 
+// A line for each block.
+fn put_blocks(text: &mut TextBuffer, layout: &Layout) -> Result<(), OutOfMemory>
+    ensures grown { OnOk result (text.new ≡ text.old
+        ++ joined_pieces (numbered_pieces (block_line layout.now.page) 0 layout.now.blocks)) }
+{
+    let opening = b"<div class='ocrx_block' id='block_";
+    put_box_lines(text, opening, layout.page, &layout.blocks)
+}
+
 // The kind of the elements of words, where they are shown.
 fn word_capability(with_words: bool) -> &'static [u8]
     ensures { result.now ≡ word_kind with_words }
@@ -119,6 +129,7 @@ fn put_page(text: &mut TextBuffer, layout: &Layout) -> Result<(), OutOfMemory>
     put_page_line(text, layout)?;
     put_whites(text, layout)?;
     put_gutters(text, layout)?;
+    put_blocks(text, layout)?;
     put_cells(text, layout.page, &layout.cells)?;
     put_areas(text, layout)?;
     text.push(b"</div>\n")?;
@@ -162,8 +173,8 @@ fn document_text(alloc: Global, layouts: &[Layout]) -> Result<Vec<u8>, OutOfMemo
 
 /// The document of the layout of an input's one page, in the manner of hOCR 1.2: an HTML file whose
 /// `ocr_page` element has the name of the page's image, its box, number and count of black pixels in
-/// its title. In it stand the white rectangles, then the gutters, then the cells, and then the areas
-/// in the order of the listing, each with its half-open `bbox` of pixels. A cell has its path as
+/// its title. In it stand the white rectangles, then the gutters, the blocks, the cells and the areas,
+/// these in the order of the listing, each with its half-open `bbox` of pixels. A cell has its path as
 /// `x_path`: the digit 0 or 1 for each cut, or `r` where there is none. An area holds its lines, each
 /// with its `baseline`: the slope, with three decimals, and how far below the bottom edge of the
 /// line's box it begins at the left edge. Where the line of its descenders lies below the baseline,

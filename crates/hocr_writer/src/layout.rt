@@ -45,6 +45,9 @@ pub struct Layout {
     /// The white rectangles that are gutters between columns of text. The k-th, from 0, is an element
     /// `ocr_separator`, with the `id` `gutter_` and the page's number, `_` and k.
     pub gutters: Rects,
+    /// The blocks of the page: the boxes of what its smeared runs of black join. The k-th, from 0, is an
+    /// element `ocrx_block`, with the `id` `block_` and the page's number, `_` and k.
+    pub blocks: Rects,
     /// The cells that the boxes of the page fall into, in the order of their paths. The k-th, from 0, is
     /// an element `ocrx_cell`, with the `id` `cell_` and the page's number, `_` and k. Its property
     /// `x_path` is its path: the digit 0 or 1 for each cut, or `r` where there is none.

@@ -19,6 +19,7 @@ struct Case {
     image: &'static [u8],
     whites: &'static [Sides],
     gutters: &'static [Sides],
+    blocks: &'static [Sides],
     // The path and the box of each cell.
     cells: &'static [(&'static [Side], Sides)],
     // The box, the slope, the offset and the depth of each line.
@@ -45,6 +46,7 @@ const SLANTED_LINES: Case = Case {
     image: b"scan.pbm",
     whites: &[],
     gutters: &[],
+    blocks: &[],
     cells: &[],
     lines: &[
         ([0, 20, 1010, 40], 10, 30, 0),
@@ -76,7 +78,8 @@ lines 2\nareas 2\norder topological\n",
     ],
 };
 
-// Two white rectangles, of which one is a gutter; two cells, at the ends of no cut and of two; three lines and a cycle of two of them, which is not in rising order.
+// Two white rectangles, of which one is a gutter; two blocks; two cells, at the ends of no cut and of two; three lines and a cycle of
+// two of them, which is not in rising order.
 const CYCLE: Case = Case {
     name: "cycle",
     page: 0,
@@ -85,6 +88,7 @@ const CYCLE: Case = Case {
     image: b"",
     whites: &[[0, 10, 100, 20], [70, 0, 80, 60]],
     gutters: &[[70, 0, 80, 60]],
+    blocks: &[[0, 0, 60, 30], [40, 40, 60, 50]],
     cells: &[
         (&[], [0, 0, 60, 50]),
         (&[Side::Before, Side::After], [40, 40, 60, 50]),
@@ -103,6 +107,8 @@ const CYCLE: Case = Case {
 <div class='ocrx_whitespace' id='white_0_0' title='bbox 0 10 100 20'></div>\n\
 <div class='ocrx_whitespace' id='white_0_1' title='bbox 70 0 80 60'></div>\n\
 <div class='ocr_separator' id='gutter_0_0' title='bbox 70 0 80 60'></div>\n\
+<div class='ocrx_block' id='block_0_0' title='bbox 0 0 60 30'></div>\n\
+<div class='ocrx_block' id='block_0_1' title='bbox 40 40 60 50'></div>\n\
 <div class='ocrx_cell' id='cell_0_0' title='bbox 0 0 60 50; x_path r'></div>\n\
 <div class='ocrx_cell' id='cell_0_1' title='bbox 40 40 60 50; x_path 01'></div>\n\
 <div class='ocr_carea' id='area_0_0' title='bbox 0 0 60 30'>\n\
@@ -127,6 +133,7 @@ const LETTERS_WITH_TAILS: Case = Case {
     image: b"",
     whites: &[],
     gutters: &[],
+    blocks: &[],
     cells: &[],
     lines: &[([10, 10, 100, 34], 0, 30, 4)],
     is_cycle: false,
@@ -256,6 +263,7 @@ fn layout_of_case(alloc: Global, case: &Case) -> Result<Layout, Fail> {
         image: name(alloc, case.image)?,
         whites: boxes(alloc, case.whites)?,
         gutters: boxes(alloc, case.gutters)?,
+        blocks: boxes(alloc, case.blocks)?,
         cells: cells(alloc, case.cells)?,
         lines: marks(alloc, case.lines)?,
         order: order(alloc, case.is_cycle, case.order)?,
@@ -315,6 +323,7 @@ fn blank_page(alloc: Global, page: u32) -> Result<Layout, Fail> {
         image: Name::new(alloc),
         whites: boxes(alloc, &[[0, 0, 16, 16]])?,
         gutters: Rects::new(alloc),
+        blocks: Rects::new(alloc),
         cells: Cells::new(alloc),
         lines: Marks::new(alloc),
         order: order(alloc, false, &[])?,
