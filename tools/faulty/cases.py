@@ -65,7 +65,7 @@ def many_cases():
 
 
 def large_cases(command):
-    """A page of print, with and without its words and cells, whose document is that of a run without a fault, and a made one."""
+    """A page of print, with and without its words, blocks and cells, whose document is that of a run without a fault, and a made one."""
     with gzip.open(os.path.join(TOP, "examples", "article.pbm.gz")) as file:
         article = file.read()
 
@@ -74,4 +74,4 @@ def large_cases(command):
         return Case(name, words, article, [done.stdout])
 
     made = [Case(name, words, b"", [text]) for name, words, text in PROGRAMS.SUMMARIES if name == "seed 7"]
-    return [whole("article", []), whole("words and cells of the article", ["--words", "--xy"]), *made]
+    return [whole("article", []), whole("words, blocks and cells of the article", ["--words", "--blocks", "--xy"]), *made]

@@ -61,7 +61,7 @@ def answer_in(file):
 
 def options_of(plan):
     """The words for layout1 by the plan."""
-    flags = {"--words": plan.words, "--xy": plan.xy}
+    flags = {"--words": plan.words, "--blocks": plan.blocks, "--xy": plan.xy}
     return [*([] if plan.rects is None else ["--rects", str(plan.rects)]), *(flag for flag, asked in flags.items() if asked)]
 
 

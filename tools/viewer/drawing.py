@@ -78,7 +78,7 @@ class Drawing:
         return next(layer for layer in self.layers if layer.key == key)
 
 
-KINDS = {"ocrx_whitespace": "white", "ocr_separator": "gutter", "ocrx_cell": "cell"}
+KINDS = {"ocrx_whitespace": "white", "ocr_separator": "gutter", "ocrx_block": "block", "ocrx_cell": "cell"}
 KINDS.update({"ocr_carea": "area", "ocr_par": "paragraph", "ocrx_word": "word"})
 KINDS.update({name: "line" for name in LINE_CLASSES})
 NAMES = {"white": "white rectangle", "area": "area", "paragraph": "paragraph", "line": "text line"}  # the others are named by their kind
@@ -94,6 +94,7 @@ def empty_layers(cycle):
     return [
         Layer("white", "White rectangles", "#56b4e9", True, False),
         Layer("gutter", "Gutters", "#e69f00", True, False),
+        Layer("block", "Blocks", "#a06a2c", False, False),
         Layer("cell", "Cells", "#5b4fb5", False, False),
         Layer("other", "Other elements", "#777777", False, False),
         Layer("paragraph", "Paragraphs", "#8a7a00", False, False),
