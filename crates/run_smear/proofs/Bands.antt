@@ -2,11 +2,9 @@
 use Rattle.std.proofs.Common.{zero-add, ◌≡◌, ◌<◌, ◌≤◌, ℕ, ◌+◌, ◌-◌, true, eqb, min, List, length, ◌↔◌, inl, inr, refl, sym, subst, ◌∙◌, arith}
 use Rattle.std.proofs.lemmas.Bool.{cases_lt, cases_eq, eq-eqb, ne_eqb, eqb-true}
 use Rattle.packed_rows.specs.Page.{Page, pixel, row_len, IsClipped, IsPackedRow}
-use Rattle.packed_rows.specs.PageLaws.{with_clipped}
-use Rattle.std.specs.List.{list_any}
 use Rattle.page_runs.specs.declared.row_runs.Run.{Run}
-use Rattle.page_runs.specs.Packed.{Packed, page_of, row_of, rows_of}
-use Rattle.page_runs.specs.Runs.{AreApart, has_column}
+use Rattle.page_runs.specs.Packed.{Packed, page_of, rows_of}
+use Rattle.page_runs.specs.Runs.{AreApart}
 use Rattle.page_runs.specs.Rows.{Given}
 use Rattle.run_smear.specs.declared.fills.Fill.{Fill}
 use Rattle.run_smear.specs.Smear.{IsInRowSmear, IsInColumnSmear, IsInSmear, IsBandOf, IsSmearOf}
@@ -14,10 +12,6 @@ use Rattle.run_smear.specs.Painted.{GotBlack, IsPainted}
 use Rattle.run_smear.specs.Columns.{HasFill, IsFilledAt, IsSwept, AreNear, AreKnown, AreWithin}
 use Rattle.run_smear.proofs.Blackening.{pixel_below_two}
 use Rattle.run_smear.proofs.Filling.{near_kept, near_only, near_within}
-
-pub page_clipped : (p : Packed) → IsClipped (page_of p)
-unfolding page_of
-page_clipped p = with_clipped p.width p.height (λ x y. list_any (has_column x) (row_of p y))
 
 pub apart_wider : (width more : ℕ) (runs : List Run) → AreApart width runs → width ≤ more → AreApart more runs
 apart_wider width more runs apart wide = record {

@@ -4,4 +4,5 @@ pub mod RowSmear
 pub mod Filling
 pub mod Sweeping
 pub mod Bands
+pub mod Unique
 pub mod Stacking

@@ -3,4 +3,5 @@ pub mod Smear
 pub mod Painted
 pub mod Columns
 pub mod Ready
+pub mod Clipped
 pub mod Stacked

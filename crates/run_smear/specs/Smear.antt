@@ -41,6 +41,10 @@ pub record IsSmearOf (page : Page) (h v : ℕ) (smear : Page) : Type 0 where
   pub height_is : smear.height ≡ page.height
   pub blacks : (x y : ℕ) → (smear.is_black x y ≡ true) ↔ IsInSmear page h v x y
 
+-- a page has one smear
+abbrev pub SmearIsUnique : Type 0
+SmearIsUnique = (page smear other : Page) (h v : ℕ) → IsSmearOf page h v smear → IsSmearOf page h v other → smear ≡ other
+
 -- the rows of the smear from one of the page up to another, which is excluded
 pub record IsBandOf (page : Page) (h v from to : ℕ) (band : Page) : Type 0 where
   pub width_is : band.width ≡ page.width

@@ -6,6 +6,7 @@ mod band;
 mod columns;
 mod fills;
 mod forked;
+mod law;
 mod painting;
 mod row;
 mod smears;
@@ -14,4 +15,5 @@ mod stack;
 mod tests;
 
 pub use forked::smear;
+pub use law::smear_is_unique;
 pub use smears::smear_alone;

@@ -4,7 +4,7 @@ ghost use Rattle.packed_rows.specs.Page.{IsPackedRow, IsPageSize};
 ghost use Rattle.page_runs.specs.Packed.{IsWhole, page_of};
 
 use crate::painting::blacken;
-use crate::{smear, smear_alone};
+use crate::{smear, smear_alone, smear_is_unique};
 use layout_limits::{MAX_PIXELS, MAX_SIDE, OutOfMemory};
 use packed_rows::{clear_padding, row_len};
 use page_runs::{RowSink, RunPage};
@@ -223,4 +223,9 @@ fn smears_by_hand(rt: HostRuntime) -> Result<(), Fail> {
         same_runs(&rt, &shared, &want);
     }
     Ok(())
+}
+
+#[test]
+fn the_law_is_stated(_rt: HostRuntime) {
+    smear_is_unique();
 }

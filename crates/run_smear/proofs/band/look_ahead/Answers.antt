@@ -4,7 +4,8 @@ use Rattle.packed_rows.specs.Page.{IsPageSize}
 use Rattle.page_runs.specs.Packed.{page_of}
 use Rattle.run_smear.specs.declared.fills.Fill.{Fill}
 use Rattle.run_smear.specs.Columns.{AreWithin, AreNear, IsSwept}
-use Rattle.run_smear.proofs.Bands.{page_clipped, near_known}
+use Rattle.run_smear.specs.Clipped.{page_clipped}
+use Rattle.run_smear.proofs.Bands.{near_known}
 use Rattle.run_smear.proofs.Sweeping.{swept_less}
 use Rattle.run_smear.proofs.band.look_ahead.Goals as goal
 

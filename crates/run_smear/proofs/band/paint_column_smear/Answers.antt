@@ -1,5 +1,6 @@
 use Rattle.std.proofs.Common.{◌∙◌, ◌+◌, arith}
 use Rattle.page_runs.specs.Packed.{page_of}
+use Rattle.run_smear.specs.Clipped.{page_clipped}
 use Rattle.run_smear.proofs.Bands.{apart_wider, column_painted, known_below}
 use Rattle.run_smear.proofs.Sweeping.{swept_less}
 use Rattle.run_smear.proofs.band.paint_column_smear.Goals as goal

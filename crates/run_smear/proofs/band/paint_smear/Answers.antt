@@ -1,7 +1,8 @@
 use Rattle.std.proofs.Common.{◌∙◌}
 use Rattle.page_runs.specs.Packed.{page_of}
 use Rattle.run_smear.specs.Smear.{IsInRowSmear, IsInColumnSmear}
-use Rattle.run_smear.proofs.Bands.{page_clipped, both_painted, packed_smear}
+use Rattle.run_smear.specs.Clipped.{page_clipped}
+use Rattle.run_smear.proofs.Bands.{both_painted, packed_smear}
 use Rattle.run_smear.proofs.band.paint_smear.Goals as goal
 
 pub returns-clause-painted : goal.returns-clause-painted

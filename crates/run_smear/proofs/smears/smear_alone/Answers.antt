@@ -2,7 +2,8 @@ use Rattle.std.proofs.Common.{ℕ, subst}
 use Rattle.std.proofs.lemmas.Result.{IfOk-weaker}
 use Rattle.page_runs.specs.Packed.{page_of}
 use Rattle.run_smear.specs.Smear.{IsBandOf}
-use Rattle.run_smear.proofs.Bands.{page_clipped, whole_band}
+use Rattle.run_smear.specs.Clipped.{page_clipped}
+use Rattle.run_smear.proofs.Bands.{whole_band}
 use Rattle.run_smear.proofs.smears.smear_alone.Goals as goal
 
 pub returns-clause-smear : goal.returns-clause-smear

@@ -2,7 +2,7 @@ use Rattle.std.proofs.Common.{◌≡◌, ℕ, length, refl, arith, sym, subst, �
 use Rattle.packed_rows.specs.Page.{row_len, IsPackedRow}
 use Rattle.page_runs.specs.Packed.{page_of}
 use Rattle.run_smear.specs.Stacked.{HasMore}
-use Rattle.run_smear.proofs.Bands.{page_clipped}
+use Rattle.run_smear.specs.Clipped.{page_clipped}
 use Rattle.run_smear.proofs.Stacking.{no_more, one_more, plain_packed}
 use Rattle.run_smear.proofs.stack.push_rows.Goals as goal
 
