@@ -7,30 +7,27 @@ use Rattle.layout_outside.specs.Views.{SourceView}
 use Rattle.pbm_reader.specs.Page.{Page}
 use Rattle.pbm_reader.specs.Spelling.{Spells}
 use Rattle.pbm_reader.specs.Images.{SpellsPages}
-use Rattle.components.specs.Kept.{IsKeptCount, KeptIsUnique}
-use Rattle.hocr_writer.specs.declared.layout.Layout.{Layout}
-use Rattle.command_words.specs.declared.plan.Plan.{Plan}
-use Rattle.layout_core.specs.Layouts.{HasFewComponents, HasTooMany, IsLayoutAs}
+use Rattle.components.specs.declared.kept.Kept.{Kept}
+use Rattle.components.specs.Kept.{IsKeptCount, IsKeptOf, KeptIsUnique}
+use Rattle.layout_core.specs.Layouts.{HasFewComponents, HasTooManyComponents}
 use Rattle.layout_core.specs.Run.{ReadsWhole}
 
 -- a list of the kept boxes counts the kept components
 list_counts : (page : Page) (f : HasFewComponents page) → IsKeptCount page (length f.boxes)
 list_counts page f = record { found = f.are_kept.found; is_kept = f.are_kept.is_kept; counted = sym (length_permutation f.are_kept.found f.boxes f.are_kept.rearranged) }
 
-pub few_or_many : KeptIsUnique → (page : Page) (count : ℕ) → HasFewComponents page → HasTooMany page count → ⊥
-few_or_many unique page count f m =
+pub few_components : KeptIsUnique → (page : Page) (count : ℕ) → HasFewComponents page → HasTooManyComponents page count → ⊥
+few_components unique page count f m =
     let same : count ≡ length f.boxes = (unique page).one_count count (length f.boxes) m.counted (list_counts page f) in
     omega (arith, same, f.few, m.many)
 
 -- a page has one number of components that are too many
-pub one_number : KeptIsUnique → (page other : Page) (m n : ℕ) → page ≡ other → HasTooMany page m → HasTooMany other n → m ≡ n
-one_number unique page other m n same many many_too =
-    let P : Page → Type 0 = λ p. IsKeptCount p m in
-    (unique other).one_count m n (subst P same many.counted) many_too.counted
+pub one_count : KeptIsUnique → (page : Page) (m n : ℕ) → HasTooManyComponents page m → HasTooManyComponents page n → m ≡ n
+one_count unique page m n many many_too = (unique page).one_count m n many.counted many_too.counted
 
--- a page with a layout has few
-pub few_of : (number : ℕ) (plan : Plan) (page : Page) (layout : Layout) → IsLayoutAs number plan page layout → HasFewComponents page
-few_of number plan page layout l = record { boxes = l.kept.boxes; are_kept = (l.is_kept).boxes; few = (l.is_kept).few }
+-- a page with kept components has few
+pub few_kept : (page : Page) (kept : Kept) → IsKeptOf page kept → HasFewComponents page
+few_kept page kept is = record { boxes = kept.boxes; are_kept = is.boxes; few = is.few }
 
 -- what was read to its end is what was left at the start
 pub whole_is : (before after : SourceView) (input : List ℕ) (pages : List Page) → before.left ≡ Some input → ReadsWhole before after pages → SpellsPages input pages

@@ -12,9 +12,9 @@ use Rattle.command_words.specs.declared.plan.Plan.{Plan}
 use Rattle.command_words.specs.Plans.{HasPlan, HasNoPlan}
 use Rattle.layout_core.specs.declared.refusal.Refusal.{Refusal}
 use Rattle.layout_core.specs.declared.refusal.Refusal.TheVariants as refusals
-use Rattle.layout_core.specs.Layouts.{HasFewComponents}
+use Rattle.layout_core.specs.Layouts.{HasFew}
 use Rattle.layout_core.specs.RefusalLines.{refusal_line}
-use Rattle.layout_core.specs.Run.{RunAccount, IsPlanned, IsReading, IsMaking, ReadsDocument, IsSummaryOf, IsOutput, WritesOutput, WritesFront}
+use Rattle.layout_core.specs.Run.{RunAccount, IsPlanned, ReadsBy, IsMaking, ReadsDocument, IsSummaryOf, IsOutput, WritesOutput, WritesFront}
 use Rattle.layout_core.specs.Owed.{Owes, IsOwed}
 use Rattle.layout_core.specs.Status.{fault_status, status_of, Says, OwesTooMany, RefusesPage, RefusesComponents, RefusesLayouts, FailsToRead, FailsToWrite, EndsWith, EndsWritten, IsStatus, IsWantOfMemory, ToldWhole, AnswersPages, Finishes, IsRun}
 use Rattle.layout_core.specs.Words.{RefusesWords}
@@ -43,13 +43,13 @@ is_fault_status status from (inr (inr (inl s))) is = inr (inr (inr (inr (inl (is
 is_fault_status status from (inr (inr (inr s))) is = inr (inr (inr (inr (inr (inr (is ∙ s))))))
 
 -- a fault that is no failed read and no want of memory is owed to the input
-fault_of : (before after : SourceView) (fault : PageFault) → (fault_status fault ≡ 3) ⊎ (fault_status fault ≡ 4) → RefusesLayouts before after (refusals.Page fault)
-    → IfSome before.left (λ input. Owes input (refusals.Page fault))
-fault_of before after faults.ReadFault (inl s) r = absurd (omega (arith, s))
-fault_of before after faults.ReadFault (inr s) r = absurd (omega (arith, s))
-fault_of before after faults.Memory (inl s) r = absurd (omega (arith, s))
-fault_of before after faults.Memory (inr s) r = absurd (omega (arith, s))
-fault_of before after fault s r = r
+fault_of : (plan : Plan) (before after : SourceView) (fault : PageFault) → (fault_status fault ≡ 3) ⊎ (fault_status fault ≡ 4) → RefusesLayouts plan before after (refusals.Page fault)
+    → IfSome before.left (λ input. Owes plan input (refusals.Page fault))
+fault_of plan before after faults.ReadFault (inl s) r = absurd (omega (arith, s))
+fault_of plan before after faults.ReadFault (inr s) r = absurd (omega (arith, s))
+fault_of plan before after faults.Memory (inl s) r = absurd (omega (arith, s))
+fault_of plan before after faults.Memory (inr s) r = absurd (omega (arith, s))
+fault_of plan before after fault s r = r
 
 -- ---- the refusal that is owed
 
@@ -57,32 +57,32 @@ told_input : (left : Option (List ℕ)) (input : List ℕ) (P : List ℕ → Typ
 told_input left input P told p = let Q : Option (List ℕ) → Type 0 = λ o. IfSome o P in subst Q told p
 
 -- a told input's refusal is answered, where no read of it failed
-refusal_answered : InputLaws → (before after : SourceView) (input : List ℕ) (wanted refusal : Refusal) → ToldWhole before after input → Owes input wanted → RefusesLayouts before after refusal
+refusal_answered : InputLaws → (plan : Plan) (before after : SourceView) (input : List ℕ) (wanted refusal : Refusal) → ToldWhole before after input → Owes plan input wanted → RefusesLayouts plan before after refusal
     → (refusal ≡ refusals.Page faults.ReadFault → Rose before.faults after.faults) → (refusal ≡ wanted) ⊎ IsWantOfMemory refusal
-refusal_answered laws before after input wanted (refusals.Page faults.ReadFault) told owes why rose = absurd (told.1 (rose refl))
-refusal_answered laws before after input wanted (refusals.Page faults.Memory) told owes why rose = inr (inr refl)
-refusal_answered laws before after input wanted (refusals.Page fault) told owes why rose =
-    inl (one_owed laws input (refusals.Page fault) wanted (told_input before.left input (λ l. Owes l (refusals.Page fault)) told.0 why) owes)
-refusal_answered laws before after input wanted (refusals.TooMany count) told owes why rose =
+refusal_answered laws plan before after input wanted (refusals.Page faults.ReadFault) told owes why rose = absurd (told.1 (rose refl))
+refusal_answered laws plan before after input wanted (refusals.Page faults.Memory) told owes why rose = inr (inr refl)
+refusal_answered laws plan before after input wanted (refusals.Page fault) told owes why rose =
+    inl (one_owed laws plan input (refusals.Page fault) wanted (told_input before.left input (λ l. Owes plan l (refusals.Page fault)) told.0 why) owes)
+refusal_answered laws plan before after input wanted (refusals.TooMany count) told owes why rose =
     let same : input ≡ why.input = told_input before.left input (λ l. l ≡ why.input) told.0 why.is_left in
-    inl (one_owed laws input (refusals.TooMany count) wanted (subst (λ (l : List ℕ). Owes l (refusals.TooMany count)) (sym same) why.owes) owes)
-refusal_answered laws before after input wanted refusals.Memory told owes why rose = inr (inl refl)
-refusal_answered laws before after input wanted (refusals.Usage program) told owes why rose = absurd why
-refusal_answered laws before after input wanted refusals.WriteFault told owes why rose = absurd why
+    inl (one_owed laws plan input (refusals.TooMany count) wanted (subst (λ (l : List ℕ). Owes plan l (refusals.TooMany count)) (sym same) why.owes) owes)
+refusal_answered laws plan before after input wanted refusals.Memory told owes why rose = inr (inl refl)
+refusal_answered laws plan before after input wanted (refusals.Usage program) told owes why rose = absurd why
+refusal_answered laws plan before after input wanted refusals.WriteFault told owes why rose = absurd why
 
 -- pages of few components are refused for want of memory alone
-few_answered : InputLaws → (before after : SourceView) (input : List ℕ) (pages : List Page) (refusal : Refusal) → ToldWhole before after input → SpellsPages input pages → All HasFewComponents pages
-    → RefusesLayouts before after refusal → (refusal ≡ refusals.Page faults.ReadFault → Rose before.faults after.faults) → IsWantOfMemory refusal
-few_answered laws before after input pages (refusals.Page faults.ReadFault) told spells few why rose = absurd (told.1 (rose refl))
-few_answered laws before after input pages (refusals.Page faults.Memory) told spells few why rose = inr refl
-few_answered laws before after input pages (refusals.Page fault) told spells few why rose =
-    absurd (none_owed laws input pages (refusals.Page fault) spells few (told_input before.left input (λ l. Owes l (refusals.Page fault)) told.0 why))
-few_answered laws before after input pages (refusals.TooMany count) told spells few why rose =
+few_answered : InputLaws → (plan : Plan) (before after : SourceView) (input : List ℕ) (pages : List Page) (refusal : Refusal) → ToldWhole before after input → SpellsPages input pages → All (HasFew plan) pages
+    → RefusesLayouts plan before after refusal → (refusal ≡ refusals.Page faults.ReadFault → Rose before.faults after.faults) → IsWantOfMemory refusal
+few_answered laws plan before after input pages (refusals.Page faults.ReadFault) told spells few why rose = absurd (told.1 (rose refl))
+few_answered laws plan before after input pages (refusals.Page faults.Memory) told spells few why rose = inr refl
+few_answered laws plan before after input pages (refusals.Page fault) told spells few why rose =
+    absurd (none_owed laws plan input pages (refusals.Page fault) spells few (told_input before.left input (λ l. Owes plan l (refusals.Page fault)) told.0 why))
+few_answered laws plan before after input pages (refusals.TooMany count) told spells few why rose =
     let same : input ≡ why.input = told_input before.left input (λ l. l ≡ why.input) told.0 why.is_left in
-    absurd (none_owed laws input pages (refusals.TooMany count) spells few (subst (λ (l : List ℕ). Owes l (refusals.TooMany count)) (sym same) why.owes))
-few_answered laws before after input pages refusals.Memory told spells few why rose = inl refl
-few_answered laws before after input pages (refusals.Usage program) told spells few why rose = absurd why
-few_answered laws before after input pages refusals.WriteFault told spells few why rose = absurd why
+    absurd (none_owed laws plan input pages (refusals.TooMany count) spells few (subst (λ (l : List ℕ). Owes plan l (refusals.TooMany count)) (sym same) why.owes))
+few_answered laws plan before after input pages refusals.Memory told spells few why rose = inl refl
+few_answered laws plan before after input pages (refusals.Usage program) told spells few why rose = absurd why
+few_answered laws plan before after input pages refusals.WriteFault told spells few why rose = absurd why
 
 module _ (SourceStays OutStays ErrStays : Type 0) (run : RunAccount) where
   -- ---- what a refusal tells
@@ -90,9 +90,9 @@ module _ (SourceStays OutStays ErrStays : Type 0) (run : RunAccount) where
   -- why the run ended for this refusal, and what it left alone
   abbrev IsCaused : Refusal → Type 0
   IsCaused (refusals.Usage program) = (program ≡ run.program) × HasNoPlan run.program run.words × SourceStays × OutStays
-  IsCaused (refusals.Page fault) = IsReading run.program run.words × RefusesLayouts run.source_before run.source_after (refusals.Page fault)
+  IsCaused (refusals.Page fault) = ReadsBy run.program run.words (λ plan. RefusesLayouts plan run.source_before run.source_after (refusals.Page fault))
       × (fault ≡ faults.ReadFault → Rose run.source_before.faults run.source_after.faults) × OutStays
-  IsCaused (refusals.TooMany count) = IsReading run.program run.words × OwesTooMany run.source_before count × OutStays
+  IsCaused (refusals.TooMany count) = ReadsBy run.program run.words (λ plan. OwesTooMany plan run.source_before count) × OutStays
   IsCaused refusals.WriteFault = IsPlanned run.program run.words × Rose run.out_before.faults run.out_after.faults × WritesFront run
   IsCaused refusals.Memory = OutStays
 
@@ -112,20 +112,20 @@ module _ (SourceStays OutStays ErrStays : Type 0) (run : RunAccount) where
   usage (refusals.Page fault) why line s = absurd (omega (arith, s, fault_in fault))
   usage refusal why line s = absurd (omega (arith, s))
 
-  bad_page : (refusal : Refusal) → IsCaused refusal → Says run refusal → status_of refusal ≡ 3 → IsReading run.program run.words × RefusesPage 3 run
+  bad_page : (refusal : Refusal) → IsCaused refusal → Says run refusal → status_of refusal ≡ 3 → ReadsBy run.program run.words (λ plan. RefusesPage 3 plan run)
   bad_page (refusals.Page fault) why line s =
-      (why.0, record { fault = fault; status_is = s; owes = fault_of run.source_before run.source_after fault (inl s) why.1; line = line })
+      let r = why.0 in (r.0, r.1, r.2, record { fault = fault; status_is = s; owes = fault_of r.0 run.source_before run.source_after fault (inl s) r.3; line = line })
   bad_page refusal why line s = absurd (omega (arith, s))
 
-  limited : (refusal : Refusal) → IsCaused refusal → Says run refusal → status_of refusal ≡ 4 → IsReading run.program run.words × (RefusesPage 4 run ⊎ RefusesComponents run)
+  limited : (refusal : Refusal) → IsCaused refusal → Says run refusal → status_of refusal ≡ 4 → ReadsBy run.program run.words (λ plan. RefusesPage 4 plan run ⊎ RefusesComponents plan run)
   limited (refusals.Page fault) why line s =
-      (why.0, inl (record { fault = fault; status_is = s; owes = fault_of run.source_before run.source_after fault (inr s) why.1; line = line }))
-  limited (refusals.TooMany count) why line s = (why.0, inr (record { count = count; too_many = why.1; line = line }))
+      let r = why.0 in (r.0, r.1, r.2, inl (record { fault = fault; status_is = s; owes = fault_of r.0 run.source_before run.source_after fault (inr s) r.3; line = line }))
+  limited (refusals.TooMany count) why line s = let r = why.0 in (r.0, r.1, r.2, inr (record { count = count; too_many = r.3; line = line }))
   limited refusal why line s = absurd (omega (arith, s))
 
-  read_fault : (refusal : Refusal) → IsCaused refusal → Says run refusal → status_of refusal ≡ 5 → IsReading run.program run.words × FailsToRead run
+  read_fault : (refusal : Refusal) → IsCaused refusal → Says run refusal → status_of refusal ≡ 5 → ReadsBy run.program run.words (λ plan. FailsToRead plan run)
   read_fault (refusals.Page faults.ReadFault) why line s =
-      (why.0, record { failed = why.2 refl; stops = why.1; line = line })
+      let r = why.0 in (r.0, r.1, r.2, record { failed = why.1 refl; stops = r.3; line = line })
   read_fault (refusals.Page fault) why line s = absurd (omega (arith, s))
   read_fault refusal why line s = absurd (omega (arith, s))
 
@@ -143,8 +143,8 @@ module _ (SourceStays OutStays ErrStays : Type 0) (run : RunAccount) where
 
   unwritten : (refusal : Refusal) → IsCaused refusal → (status_of refusal ≡ 6 → ⊥) → OutStays
   unwritten (refusals.Usage program) why not = why.3
-  unwritten (refusals.Page fault) why not = why.3
-  unwritten (refusals.TooMany count) why not = why.2
+  unwritten (refusals.Page fault) why not = why.2
+  unwritten (refusals.TooMany count) why not = why.1
   unwritten refusals.WriteFault why not = absurd (not refl)
   unwritten refusals.Memory why not = why
 
@@ -162,14 +162,14 @@ module _ (SourceStays OutStays ErrStays : Type 0) (run : RunAccount) where
     planless : HasNoPlan run.program run.words → EndsWith run 2
     owed : (input : List ℕ) (refusal : Refusal) → ToldWhole run.source_before run.source_after input → IsOwed run.program run.words input refusal
         → EndsWith run (status_of refusal)
-    complete : IsReading run.program run.words → (input : List ℕ) (pages : List Page)
-        → ToldWhole run.source_before run.source_after input → SpellsPages input pages → All HasFewComponents pages → EndsWritten run
+    complete : (input : List ℕ) (pages : List Page) → ToldWhole run.source_before run.source_after input → SpellsPages input pages
+        → ReadsBy run.program run.words (λ plan. All (HasFew plan) pages) → EndsWritten run
     unread : IsMaking run.program run.words → SourceStays
     made : IsMaking run.program run.words → EndsWritten run
 
   -- of words with a plan a refusal of the input is owed
   owed_input : (HasNoPlan run.program run.words → ⊥) → (input : List ℕ) (refusal : Refusal) → IsOwed run.program run.words input refusal
-      → IsReading run.program run.words × Owes input refusal
+      → ReadsBy run.program run.words (λ plan. Owes plan input refusal)
   owed_input planned input (refusals.Usage program) owed = absurd (planned owed.1)
   owed_input planned input refusal owed = owed
 
@@ -221,7 +221,7 @@ module _ (SourceStays OutStays ErrStays : Type 0) (run : RunAccount) where
       record {
         planless = λ none. inr is;
         owed = λ input refusal told owed. inr is;
-        complete = λ told input pages whole spells few. inr (inr is);
+        complete = λ input pages whole spells told. inr (inr is);
         unread = source;
         made = λ told. inr (inr is);
       }
@@ -232,14 +232,14 @@ module _ (SourceStays OutStays ErrStays : Type 0) (run : RunAccount) where
       record {
         planless = λ again. inl is;
         owed = λ input refusal told owed. usage_owed input refusal owed;
-        complete = λ told. absurd (none told.0 told.1);
+        complete = λ input pages whole spells told. absurd (none told.0 told.1);
         unread = λ told. absurd (none told.0 told.2);
         made = λ told. absurd (none told.0 told.2);
       }
     where
       usage_owed : (input : List ℕ) (refusal : Refusal) → IsOwed run.program run.words input refusal → EndsWith run (status_of refusal)
       usage_owed input (refusals.Usage program) owed = inl is
-      usage_owed input refusal owed = let told = owed.0 in absurd (none told.0 told.1)
+      usage_owed input refusal owed = absurd (none owed.0 owed.1)
 
   -- words without a plan, or want of memory before a plan was made
   pub ends_unplanned : (refusal : Refusal) → RefusesWords run.program run.words refusal → run.status ≡ status_of refusal → Says run refusal → SourceStays → OutStays
@@ -267,15 +267,19 @@ module _ (SourceStays OutStays ErrStays : Type 0) (run : RunAccount) where
 
   -- the run read pages, and refused them
   module _ (laws : InputLaws) (one : OnePlan) (plan : Plan) (has : HasPlan run.program run.words plan) (none : plan.make ≡ None) where
-    caused : (refusal : Refusal) → RefusesLayouts run.source_before run.source_after refusal
+    -- what holds of the plan by which pages are read holds of this one
+    by_this : (Holds : Plan → Type 0) → ReadsBy run.program run.words Holds → Holds plan
+    by_this Holds reads = subst Holds (one run.program run.words reads.0 plan reads.1 has) reads.3
+
+    caused : (refusal : Refusal) → RefusesLayouts plan run.source_before run.source_after refusal
         → (refusal ≡ refusals.Page faults.ReadFault → Rose run.source_before.faults run.source_after.faults) → OutStays → IsCaused refusal
     caused (refusals.Usage program) why rose out = absurd why
-    caused (refusals.Page fault) why rose out = ((plan, has, none), why, (λ same. rose (ap (λ f. refusals.Page f) same)), out)
-    caused (refusals.TooMany count) why rose out = ((plan, has, none), why, out)
+    caused (refusals.Page fault) why rose out = ((plan, has, none, why), (λ same. rose (ap (λ f. refusals.Page f) same)), out)
+    caused (refusals.TooMany count) why rose out = ((plan, has, none, why), out)
     caused refusals.WriteFault why rose out = absurd why
     caused refusals.Memory why rose out = out
 
-    pages_refused : {T : Type 0} → (refusal : Refusal) (IsWanted : T → Type 0) → AnswersPages run.source_before run.source_after (let r : Result T Refusal = Err refusal in r) IsWanted
+    pages_refused : {T : Type 0} → (refusal : Refusal) (IsWanted : T → Type 0) → AnswersPages plan run.source_before run.source_after (let r : Result T Refusal = Err refusal in r) IsWanted
         → run.status ≡ status_of refusal → OutStays → Says run refusal → IsRun SourceStays OutStays ErrStays run
     pages_refused refusal IsWanted answer is out line =
         let rose : refusal ≡ refusals.Page faults.ReadFault → Rose run.source_before.faults run.source_after.faults = λ same. answer.cause.failed (ap (λ r. Err r) same) in
@@ -284,24 +288,24 @@ module _ (SourceStays OutStays ErrStays : Type 0) (run : RunAccount) where
           planless = λ without. absurd (without plan has);
           owed = λ input wanted told owed.
               answered wanted refusal is
-              (refusal_answered laws run.source_before run.source_after input wanted refusal told (owed_input (λ without. without plan has) input wanted owed).1 answer.refused rose);
-          complete = λ reading input pages told spells few.
-              inr (inr (wanting refusal is (few_answered laws run.source_before run.source_after input pages refusal told spells few answer.refused rose)));
+              (refusal_answered laws plan run.source_before run.source_after input wanted refusal told
+              (by_this (λ p. Owes p input wanted) (owed_input (λ without. without plan has) input wanted owed)) answer.refused rose);
+          complete = λ input pages told spells few.
+              inr (inr (wanting refusal is
+              (few_answered laws plan run.source_before run.source_after input pages refusal told spells (by_this (λ p. All (HasFew p) pages) few) answer.refused rose)));
           unread = λ told. absurd (not_making one run.program run.words plan has none told);
           made = λ told. absurd (not_making one run.program run.words plan has none told);
         })
 
   -- what is owed of an output that was answered
   owed_output : IsPlanned run.program run.words → EndsWritten run → (IsMaking run.program run.words → SourceStays)
-      → (IsReading run.program run.words → (input : List ℕ) (refusal : Refusal) → ToldWhole run.source_before run.source_after input → Owes input refusal → ⊥)
+      → ((input : List ℕ) (refusal : Refusal) → ToldWhole run.source_before run.source_after input → ReadsBy run.program run.words (λ plan. Owes plan input refusal) → ⊥)
       → EndsAsOwed
   owed_output told written source nothing =
       record {
         planless = λ without. absurd (without told.0 told.1);
-        owed = λ input refusal whole owed.
-            let wanted = owed_input (λ without. without told.0 told.1) input refusal owed in
-            absurd (nothing wanted.0 input refusal whole wanted.1);
-        complete = λ reading input pages whole spells few. written;
+        owed = λ input refusal whole owed. absurd (nothing input refusal whole (owed_input (λ without. without told.0 told.1) input refusal owed));
+        complete = λ input pages whole spells few. written;
         unread = source;
         made = λ making. written;
       }
@@ -319,16 +323,17 @@ module _ (SourceStays OutStays ErrStays : Type 0) (run : RunAccount) where
 
   -- pages were read, and their document was written, or a refusal's line
   pub document_ends : {T : Type 0} → InputLaws → OnePlan → (plan : Plan) → HasPlan run.program run.words plan → plan.make ≡ None → (text : Result T Refusal) → (bytes_of : T → List ℕ)
-      → AnswersPages run.source_before run.source_after text (λ text. ReadsDocument plan run.source_before run.source_after (bytes_of text))
+      → AnswersPages plan run.source_before run.source_after text (λ text. ReadsDocument plan run.source_before run.source_after (bytes_of text))
       → Finishes ErrStays OutStays run.out_before run.out_after run.err_before run.err_after text bytes_of run.status → IsRun SourceStays OutStays ErrStays run
   document_ends laws one plan has none (Ok text) bytes_of answer finishes =
       let read = answer.wanted.read in
       finished (bytes_of text) (plan, has) (inl (record { plan = plan; planned = has; reading = none; document = answer.wanted }))
       (λ written.
       owed_output (plan, has) written (λ told. absurd (not_making one run.program run.words plan has none told))
-      (λ reading input refusal told owes.
-      none_owed laws input read.pages refusal (whole_is run.source_before run.source_after input read.pages told.0 read.reads)
-      (few_pages 0 plan read.pages answer.wanted.layouts read.are_layouts) owes))
+      (λ input refusal told owes.
+      none_owed laws plan input read.pages refusal (whole_is run.source_before run.source_after input read.pages told.0 read.reads)
+      (few_pages 0 plan read.pages answer.wanted.layouts read.are_layouts)
+      (subst (λ (p : Plan). Owes p input refusal) (one run.program run.words owes.0 plan owes.1 has) owes.3)))
       finishes.ends finishes.done finishes.failed
   document_ends laws one plan has none (Err refusal) bytes_of answer finishes =
       let f = finishes.refused in
@@ -342,7 +347,7 @@ module _ (SourceStays OutStays ErrStays : Type 0) (run : RunAccount) where
       finished (bytes_of text) (plan, has) (inr (record { plan = plan; planned = has; seed = seed; making = some; summary = summary }))
       (λ written.
       owed_output (plan, has) written (λ told. source)
-      (λ reading input refusal told owes. absurd (not_reading one run.program run.words plan seed has some reading)))
+      (λ input refusal told owes. absurd (not_reading one run.program run.words plan seed has some (owes.0, owes.1, owes.2))))
       finishes.ends finishes.done finishes.failed
   summary_ends one plan has seed some (Err refusal) bytes_of summary want source finishes =
       let f = finishes.refused in

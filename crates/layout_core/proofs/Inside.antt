@@ -1,5 +1,5 @@
 -- What is found on a page lies on the page.
-use Rattle.std.proofs.Common.{ℕ, ◌≤◌, Bool, List, [], ◌∷◌, length, map, get_or, slice_get, subst, inl, inr, arith}
+use Rattle.std.proofs.Common.{ℕ, ◌≤◌, Bool, List, [], ◌∷◌, length, map, refl, get_or, slice_get, subst, inl, inr, arith}
 use Rattle.std.specs.Prelude.{All, IfSome}
 use Rattle.std.specs.List.{AllZip, filter}
 use Rattle.std.proofs.lemmas.Int.{ints}
@@ -8,6 +8,7 @@ use Rattle.std.proofs.lemmas.List.Sorted.{All-permutation}
 use Rattle.std.proofs.lemmas.List.Sums.{length-filter, count_by-le-length}
 use Rattle.std.proofs.lemmas.Option.{slice_get_cases}
 use Rattle.page_runs.specs.Page.{Page}
+use Rattle.page_runs.specs.Packed.{Packed, Holds, page_of}
 use Rattle.layout_geom.specs.declared.rect.Rect.{Rect}
 use Rattle.layout_geom.specs.Rectangles.{HasSides, Encloses}
 use Rattle.components.specs.declared.place.Place.{Place}
@@ -19,6 +20,10 @@ use Rattle.line_search.specs.Lines.{IsRound, IsBestLine, IsLineList, without}
 use Rattle.hocr_writer.specs.declared.layout.Mark.{Mark}
 use Rattle.hocr_writer.specs.Listing.{IsMark}
 use Rattle.layout_core.specs.Numbering.{mark_of, box_of, IsNumbered}
+
+-- a page holds the page that it is
+pub holds_itself : (p : Packed) → Holds p (page_of p)
+holds_itself p = record { width_is = refl; height_is = refl; same = λ x y in_row in_column. refl }
 
 -- a filter keeps at most what there is
 pub filter_few : {X : Type 0} (p : X → Bool) (xs : List X) → length (filter p xs) ≤ length xs

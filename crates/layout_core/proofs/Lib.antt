@@ -1,5 +1,6 @@
 pub mod Endings
 pub mod Components
+pub mod Limits
 pub mod Fronts
 pub mod Owing
 pub mod Pages

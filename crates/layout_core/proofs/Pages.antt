@@ -22,14 +22,14 @@ use Rattle.layout_core.specs.declared.page_layout.CoreFault.TheVariants as core
 use Rattle.layout_core.specs.declared.refusal.Refusal.{Refusal}
 use Rattle.layout_core.specs.declared.refusal.Refusal.TheVariants as refusals
 use Rattle.layout_core.specs.Refused.{refusal_of}
-use Rattle.layout_core.specs.Layouts.{HasFewComponents, HasTooMany, IsCoreFault, IsLayoutAs, AreLayouts, AreLayoutsFrom}
+use Rattle.layout_core.specs.Layouts.{HasFew, HasTooMany, IsCoreFault, IsLayoutAs, AreLayouts, AreLayoutsFrom}
 use Rattle.layout_core.specs.Run.{ReadsWhole}
 use Rattle.layout_core.specs.Owed.{Owes}
 use Rattle.layout_core.specs.Status.{OwesTooMany, RefusesLayouts, AnswersPages}
 use Rattle.page_runs.specs.Packed.{Packed}
 use Rattle.page_runs.specs.Rows.{Begun, Given, GivenPageIsHeld}
 use Rattle.layout_core.specs.Reading.{ReadsImages, ReadsPlain, HasRead, ReadsRows, AnswersNext, HasLaidOut}
-use Rattle.layout_core.proofs.Components.{few_of}
+use Rattle.layout_core.proofs.Limits.{few_of}
 use Rattle.layout_core.proofs.Fronts.{images_more}
 use Rattle.layout_core.proofs.Owing.{InputLaws, few_front, stops_undecided}
 
@@ -147,20 +147,20 @@ pages_end old new source later e tells quiet before pages h =
     ]
 
 -- the next page was refused
-module _ (laws : InputLaws) (old new : ImagesView) (source later : SourceView) (before : SourceView) (pages : List Page) (count_is : old.count ≡ length pages) (few : All HasFewComponents pages)
+module _ (laws : InputLaws) (plan : Plan) (old new : ImagesView) (source later : SourceView) (before : SourceView) (pages : List Page) (count_is : old.count ≡ length pages) (few : All (HasFew plan) pages)
     (r : ReadsImages before pages old source) where
-  fault_owed : (fault : PageFault) → IfSome (coming old source) (λ bytes. IsNextFault old.count old.judged bytes fault) → IfSome before.left (λ input. Owes input (refusals.Page fault))
+  fault_owed : (fault : PageFault) → IfSome (coming old source) (λ bytes. IsNextFault old.count old.judged bytes fault) → IfSome before.left (λ input. Owes plan input (refusals.Page fault))
   fault_owed fault why =
-      behind_known r.images before.left (coming old source) (λ bytes. IsNextFault old.count old.judged bytes fault) (λ input. Owes input (refusals.Page fault)) r.took why
+      behind_known r.images before.left (coming old source) (λ bytes. IsNextFault old.count old.judged bytes fault) (λ input. Owes plan input (refusals.Page fault)) r.took why
       (λ bytes next.
       let none : IsNextImage (length pages) (length r.images) bytes → ⊥ =
       subst (λ (n : ℕ). IsNextImage (length pages) n bytes → ⊥) r.judged_is (subst (λ (n : ℕ). IsNextImage n old.judged bytes → ⊥) count_is next.none) in
       record {
         has = next.is_fault r.images (record { pages = pages; are_images = r.are_images; count_is = sym count_is; len_is = sym r.judged_is });
-        few = few_front laws pages r.images bytes r.are_images few none;
+        few = few_front laws plan pages r.images bytes r.are_images few none;
       })
 
-  pub next_refused : (fault : PageFault) → RefusesNext old new source later fault → RefusesLayouts before later (refusals.Page fault)
+  pub next_refused : (fault : PageFault) → RefusesNext old new source later fault → RefusesLayouts plan before later (refusals.Page fault)
   next_refused faults.ReadFault why =
       let long = long_list 268435457 in
       let is_long : 268435456 < length long.0 = omega (arith, long.1) in
@@ -172,17 +172,17 @@ module _ (laws : InputLaws) (old new : ImagesView) (source later : SourceView) (
       record {
         taken = r.images ++ why.0;
         took = r.took ∙ ap (λ (o : Option (List ℕ)). prepend_known r.images o) (why.1 ∙ ap (λ (o : Option (List ℕ)). prepend_known why.0 o) rest) ∙ twice r.images why.0 later.left;
-        undecided = stops_undecided laws pages r.images why.0 long.0 is_long r.are_images few none undecided;
+        undecided = stops_undecided laws plan pages r.images why.0 long.0 is_long r.are_images few none undecided;
       }
   next_refused faults.Memory why = tt
   next_refused fault why = fault_owed fault why
 
 -- the components of the next page are too many
-module _ (before : SourceView) (pages : List Page) (page : Page) (count : ℕ) (few : All HasFewComponents pages) (many : HasTooMany page count) where
-  raw_limit : (reader : ImagesView) (source : SourceView) → ReadsImages before (pages ++ page ∷ []) reader source → OwesTooMany before count
+module _ (plan : Plan) (before : SourceView) (pages : List Page) (page : Page) (count : ℕ) (few : All (HasFew plan) pages) (many : HasTooMany plan page count) where
+  raw_limit : (reader : ImagesView) (source : SourceView) → ReadsImages before (pages ++ page ∷ []) reader source → OwesTooMany plan before count
   raw_limit reader source r = limit (coming reader source) r.took
     where
-      owes : (behind : List ℕ) → Owes (r.images ++ behind) (refusals.TooMany count)
+      owes : (behind : List ℕ) → Owes plan (r.images ++ behind) (refusals.TooMany count)
       owes behind =
           inl (record {
             before = pages;
@@ -192,7 +192,7 @@ module _ (before : SourceView) (pages : List Page) (page : Page) (count : ℕ) (
             many = many;
           })
 
-      limit : (rest : Option (List ℕ)) → before.left ≡ prepend_known r.images rest → OwesTooMany before count
+      limit : (rest : Option (List ℕ)) → before.left ≡ prepend_known r.images rest → OwesTooMany plan before count
       limit None e =
           let R : Option (List ℕ) → Type 0 = λ o. IfSome o (λ l. l ≡ r.images ++ []) in
           record { input = r.images ++ []; is_left = subst R (sym e) tt; owes = owes [] }
@@ -204,7 +204,7 @@ module _ (before : SourceView) (pages : List Page) (page : Page) (count : ℕ) (
   one_page [] other e = cc
   one_page (p ∷ front) other e = absurd (omega (arith, ap length e, length-append front (page ∷ [])))
 
-  pub limit_owed : (reader : ImagesView) (source : SourceView) → HasRead before (pages ++ page ∷ []) reader source → OwesTooMany before count
+  pub limit_owed : (reader : ImagesView) (source : SourceView) → HasRead before (pages ++ page ∷ []) reader source → OwesTooMany plan before count
   limit_owed reader source h =
       elim h.read [
         | inl r ↦ raw_limit reader source r
@@ -212,24 +212,24 @@ module _ (before : SourceView) (pages : List Page) (page : Page) (count : ℕ) (
             record {
               input = p.input;
               is_left = taken_known before.left source.left p.input (p.took).took (p.took).end.nothing;
-              owes = inr (record { page = p.page; spells = p.spells; many = subst (λ (q : Page). HasTooMany q count) (one_page pages p.page p.alone) many });
+              owes = inr (record { page = p.page; spells = p.spells; many = subst (λ (q : Page). HasTooMany plan q count) (one_page pages p.page p.alone) many });
             }
       ]
 
 -- the layout of the next page was refused
-pub core_refused : (before : SourceView) (pages : List Page) (page : Page) (fault : CoreFault) → All HasFewComponents pages → IsCoreFault page fault
-    → (reader : ImagesView) (source : SourceView) → HasRead before (pages ++ page ∷ []) reader source → RefusesLayouts before source (refusal_of fault)
-core_refused before pages page (core.TooMany count) few is reader source h = limit_owed before pages page count few is reader source h
-core_refused before pages page core.Memory few is reader source h = tt
+pub core_refused : (plan : Plan) (before : SourceView) (pages : List Page) (page : Page) (fault : CoreFault) → All (HasFew plan) pages → IsCoreFault plan page fault
+    → (reader : ImagesView) (source : SourceView) → HasRead before (pages ++ page ∷ []) reader source → RefusesLayouts plan before source (refusal_of fault)
+core_refused plan before pages page (core.TooMany count) few is reader source h = limit_owed plan before pages page count few is reader source h
+core_refused plan before pages page core.Memory few is reader source h = tt
 
 -- ---- the layouts so far
 
-pub few_pages : (number : ℕ) (plan : Plan) (pages : List Page) (layouts : List Layout) → AreLayoutsFrom number plan pages layouts → All HasFewComponents pages
-few_pages number plan [] [] are = All-nil HasFewComponents
+pub few_pages : (number : ℕ) (plan : Plan) (pages : List Page) (layouts : List Layout) → AreLayoutsFrom number plan pages layouts → All (HasFew plan) pages
+few_pages number plan [] [] are = All-nil (HasFew plan)
 few_pages number plan [] (layout ∷ layouts) are = absurd are
 few_pages number plan (page ∷ pages) [] are = absurd are
 few_pages number plan (page ∷ pages) (layout ∷ layouts) are =
-    All-cons HasFewComponents page pages (few_of number plan page layout are.0) (few_pages (number + 1) plan pages layouts are.1)
+    All-cons (HasFew plan) page pages (few_of number plan page layout are.0) (few_pages (number + 1) plan pages layouts are.1)
 
 layouts_from : (number : ℕ) (plan : Plan) (pages : List Page) (layouts : List Layout) (page : Page) (layout : Layout) (place : ℕ) → AreLayoutsFrom number plan pages layouts → place ≡ number + length pages
     → IsLayoutAs place plan page layout → AreLayoutsFrom number plan (pages ++ page ∷ []) (layouts ++ layout ∷ [])
@@ -293,14 +293,14 @@ laid_more plan before old new source later layouts h rows r number layout at is 
 err_is : {T : Type 0} (r s : Refusal) → (let a : Result T Refusal = Err r in a) ≡ Err s → r ≡ s
 err_is r s e = cc
 
-pub answers_refused : {T : Type 0} (IsWanted : T → Type 0) (before after : SourceView) (refusal : Refusal) → before.faults ≤ after.faults → RefusesLayouts before after refusal
-    → (refusal ≡ refusals.Page faults.ReadFault → Rose before.faults after.faults) → AnswersPages before after (let r : Result T Refusal = Err refusal in r) IsWanted
-answers_refused IsWanted before after refusal later why rose =
+pub answers_refused : {T : Type 0} (plan : Plan) (IsWanted : T → Type 0) (before after : SourceView) (refusal : Refusal) → before.faults ≤ after.faults → RefusesLayouts plan before after refusal
+    → (refusal ≡ refusals.Page faults.ReadFault → Rose before.faults after.faults) → AnswersPages plan before after (let r : Result T Refusal = Err refusal in r) IsWanted
+answers_refused plan IsWanted before after refusal later why rose =
     record { wanted = tt; refused = why; cause = record { later = later; failed = λ same. rose (err_is refusal (refusals.Page faults.ReadFault) same) } }
 
-pub answers_wanted : {T : Type 0} (IsWanted : T → Type 0) (before after : SourceView) (value : T) → before.faults ≤ after.faults → IsWanted value
-    → AnswersPages before after (let r : Result T Refusal = Ok value in r) IsWanted
-answers_wanted IsWanted before after value later wanted = record { wanted = wanted; refused = tt; cause = record { later = later; failed = λ same. absurd (cc same) } }
+pub answers_wanted : {T : Type 0} (plan : Plan) (IsWanted : T → Type 0) (before after : SourceView) (value : T) → before.faults ≤ after.faults → IsWanted value
+    → AnswersPages plan before after (let r : Result T Refusal = Ok value in r) IsWanted
+answers_wanted plan IsWanted before after value later wanted = record { wanted = wanted; refused = tt; cause = record { later = later; failed = λ same. absurd (cc same) } }
 
 pub not_read_fault : (fault : CoreFault) → refusal_of fault ≡ refusals.Page faults.ReadFault → ⊥
 not_read_fault (core.TooMany count) e = cc
@@ -355,9 +355,9 @@ next_fails laws old new source later fault why on later_faults rose =
     record {
       page = tt;
       end = tt;
-      refused = λ before pages h few.
+      refused = λ plan before pages h few.
           elim h.read [
-            | inl r ↦ next_refused laws old new source later before pages h.count_is few r fault why
+            | inl r ↦ next_refused laws plan old new source later before pages h.count_is few r fault why
             | inr p ↦ absurd (err_not_none fault (on p.ended))
           ];
       cause = record {

@@ -1,5 +1,8 @@
 -- What the words tell a program is what their plan tells it, since they have one plan.
-use Rattle.std.proofs.Common.{◌≡◌, ◌∙◌, ℕ, List, Option, None, Some, ap}
+use Rattle.std.proofs.Common.{◌≡◌, ◌∙◌, ℕ, false, List, Option, None, Some, ap, subst, inl, inr}
+use Rattle.std.specs.Prelude.{is_some}
+use Rattle.command_words.specs.Items.{Text}
+use Rattle.command_words.specs.Values.{IsSeedOf}
 use Rattle.command_words.specs.declared.plan.Plan.{Plan}
 use Rattle.command_words.specs.declared.plan.Program.{Program}
 use Rattle.command_words.specs.Plans.{HasPlan}
@@ -22,6 +25,14 @@ makes one program words plan has told = ap make_of (one program words plan told.
 
 never_both : (make : Option ℕ) (seed : ℕ) → make ≡ None → make ≡ Some seed → ⊥
 never_both make seed none some = cc (none, some)
+
+-- a plan with a seed shows no blocks
+pub no_blocks : (program : Program) (words : List (List ℕ)) (plan : Plan) (seed : ℕ) → HasPlan program words plan → plan.make ≡ Some seed → plan.blocks ≡ false
+no_blocks program words plan seed has some =
+    elim has.blocks_apart [
+      | inl none ↦ has.shows_blocks ∙ ap is_some none
+      | inr none ↦ absurd (never_both plan.make seed (subst (λ (value : Option Text). IsSeedOf value plan.make) none has.make) some)
+    ]
 
 -- words whose plan has no seed make no page
 pub not_making : OnePlan → (program : Program) (words : List (List ℕ)) (plan : Plan) → HasPlan program words plan → plan.make ≡ None → IsMaking program words → ⊥

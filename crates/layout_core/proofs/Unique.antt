@@ -1,5 +1,5 @@
 -- A page has one layout, the pages of an input have one list of layouts, and a run one output.
-use Rattle.std.proofs.Common.{◌≡◌, ◌∙◌, ℕ, ◌+◌, ◌≤◌, max, Bool, List, [], ◌∷◌, length, map, Option, None, Some, refl, sym, ap, subst, arith, inl, inr}
+use Rattle.std.proofs.Common.{◌≡◌, ◌∙◌, ℕ, ◌+◌, ◌≤◌, max, Bool, true, false, List, [], ◌∷◌, length, map, Option, None, Some, refl, sym, ap, subst, arith, inl, inr}
 use Rattle.std.specs.Prelude.{All}
 use Rattle.std.specs.List.{AllZip}
 use Rattle.std.proofs.lemmas.List.Elements.{All-nil, All-cons, All-head, All-tail}
@@ -18,7 +18,7 @@ use Rattle.layout_geom.specs.declared.order.Order.{Order}
 use Rattle.layout_geom.specs.Rectangles.{HasSides, height_of}
 use Rattle.layout_geom.specs.SameSides.{same_sides}
 use Rattle.components.specs.declared.kept.Kept.{Kept}
-use Rattle.components.specs.Kept.{IsLowerMedian, KeptIsUnique}
+use Rattle.components.specs.Kept.{IsKeptOf, IsKeptList, KeptIsUnique}
 use Rattle.whitespace_cover.specs.Cover.{IsCover, CoverIsUnique}
 use Rattle.gutters.specs.Gutters.{gutters_of}
 use Rattle.line_search.specs.declared.line.Line.{Line}
@@ -39,8 +39,15 @@ use Rattle.layout_core.specs.Layouts.{IsLayout, IsLayoutAs, AreLayouts, AreLayou
 use Rattle.layout_core.specs.Run.{RunAccount, ReadsWhole, IsDocument, IsSummary, IsOutput, WritesOutput}
 use Rattle.layout_core.specs.Unique.{AskTheSame, LayoutIsUnique}
 use Rattle.word_split.specs.Words.{WordsAreUnique}
+use Rattle.xy_cut.specs.declared.cell.Cell.{Cell}
+use Rattle.xy_cut.specs.Cells.{CellsAreUnique}
+use Rattle.layout_core.specs.ShownCells.{AreShownCells}
+use Rattle.run_smear.specs.Smear.{SmearIsUnique}
+use Rattle.layout_core.specs.ShownBlocks.{AreShownBlocks}
+use Rattle.layout_core.specs.declared.cells.TheConstants.{LEAST_BAND}
 use Rattle.layout_core.proofs.Members.{same_words}
-use Rattle.layout_core.proofs.Stable.{one_stable_sort, one_rising}
+use Rattle.layout_core.proofs.Stable.{one_stable_sort}
+use Rattle.layout_core.proofs.Limits.{one_median, one_block_smear}
 use Rattle.layout_core.proofs.Components.{whole_is}
 use Rattle.layout_core.proofs.Planning.{OnePlan}
 
@@ -54,12 +61,8 @@ pub record Laws : Type 0 where
   pub order : OrderIsUnique
   pub areas : AreasAreUnique
   pub words : WordsAreUnique
-
-one_median : (xs ys : List ℕ) (m n : ℕ) → xs ≡ ys → IsLowerMedian xs m → IsLowerMedian ys n → m ≡ n
-one_median xs ys m n same is is_too =
-    let here : IsLowerMedian ys m = rw same at is in
-    let rising : here.rising ≡ is_too.rising = one_rising ys here.rising is_too.rising here.rearranged here.rises is_too.rearranged is_too.rises in
-    here.middle ∙ rw rising (sym is_too.middle)
+  pub cells : CellsAreUnique
+  pub smear : SmearIsUnique
 
 kept_with : List Rect → ℕ → Kept
 kept_with boxes median = record { boxes = boxes; median = median }
@@ -107,11 +110,27 @@ same_areas unique ms ns o p median middle xs ys marks orders medians is is_too =
 same_gutters : (k l : Kept) (ws vs gs hs : List Rect) → k ≡ l → ws ≡ vs → gs ≡ gutters_of k ws → hs ≡ gutters_of l vs → gs ≡ hs
 same_gutters k l ws vs gs hs kepts whites is is_too = cc (kepts, whites, is, is_too)
 
+same_cells : CellsAreUnique → (shown shown_too : Bool) (k l : Kept) (xs ys : List Cell) → shown ≡ shown_too → k ≡ l → AreShownCells shown k xs → AreShownCells shown_too l ys → xs ≡ ys
+same_cells unique shown shown_too k l xs ys flags kepts is is_too = there shown_too (subst (λ (flag : Bool). AreShownCells flag l xs) flags (subst (λ (kept : Kept). AreShownCells shown kept xs) kepts is)) is_too
+  where
+    there : (flag : Bool) → AreShownCells flag l xs → AreShownCells flag l ys → xs ≡ ys
+    there true are are_too = unique (max l.median LEAST_BAND) [] l.boxes xs ys are are_too
+    there false none none_too = none ∙ sym none_too
+
+same_blocks : KeptIsUnique → SmearIsUnique → (shown shown_too : Bool) (page : Page) (k l : Kept) (xs ys : List Rect) → shown ≡ shown_too → IsKeptOf page k → IsKeptOf page l → AreShownBlocks shown page k.median xs → AreShownBlocks shown_too page l.median ys → xs ≡ ys
+same_blocks kept smear shown shown_too page k l xs ys flags has has_too is is_too = there shown_too (subst (λ (flag : Bool). AreShownBlocks flag page k.median xs) flags is) is_too
+  where
+    there : (flag : Bool) → AreShownBlocks flag page k.median xs → AreShownBlocks flag page l.median ys → xs ≡ ys
+    there true are are_too =
+        let same : are.smear ≡ are_too.smear = one_block_smear kept smear page k l are.smear are_too.smear has has_too are.is_smear are_too.is_smear in
+        (kept are_too.smear).one_list xs ys (subst (λ (p : Page). IsKeptList p xs) same are.are_kept) are_too.are_kept
+    there false none none_too = none ∙ sym none_too
+
 -- ---- the layout
 
-layout_with : ℕ → ℕ → ℕ → ℕ → ℕ → ℕ → List ℕ → List Rect → List Rect → List Mark → Order → List Area → Bool → List (List Rect) → Layout
-layout_with page width height black kept median image whites gutters lines order areas with_words words =
-    record { page = page; width = width; height = height; black = black; kept = kept; median = median; image = image; whites = whites; gutters = gutters; lines = lines; order = order; areas = areas; with_words = with_words; words = words }
+layout_with : ℕ → ℕ → ℕ → ℕ → ℕ → ℕ → List ℕ → List Rect → List Rect → List Rect → List Cell → List Mark → Order → List Area → Bool → List (List Rect) → Layout
+layout_with page width height black kept median image whites gutters blocks cells lines order areas with_words words =
+    record { page = page; width = width; height = height; black = black; kept = kept; median = median; image = image; whites = whites; gutters = gutters; blocks = blocks; cells = cells; lines = lines; order = order; areas = areas; with_words = with_words; words = words }
 
 -- a page has one layout of a number
 one_numbered : Laws → (number : ℕ) (p q : Plan) → AskTheSame p q → (page : Page) (l m : Layout) → IsLayoutAs number p page l → IsLayoutAs number q page m → l ≡ m
@@ -137,7 +156,9 @@ one_numbered laws number p q same page l m is is_too =
     let images : l.image ≡ m.image = is.image_is ∙ same.image ∙ sym is_too.image_is in
     let flags : l.with_words ≡ m.with_words = is.with_words_is ∙ same.words ∙ sym is_too.with_words_is in
     let words : l.words ≡ m.words = same_words laws.words p.words q.words is.kept is_too.kept is.numbered.numbered is_too.numbered.numbered l.words m.words same.words kepts numbered is.words_are is_too.words_are in
-    let both : layout_with l.page l.width l.height l.black l.kept l.median l.image l.whites l.gutters l.lines l.order l.areas l.with_words l.words ≡ layout_with m.page m.width m.height m.black m.kept m.median m.image m.whites m.gutters m.lines m.order m.areas m.with_words m.words = cc in
+    let cells : l.cells ≡ m.cells = same_cells laws.cells p.xy q.xy is.kept is_too.kept l.cells m.cells same.cells kepts is.cells_are is_too.cells_are in
+    let blocks : l.blocks ≡ m.blocks = same_blocks laws.kept laws.smear p.blocks q.blocks page is.kept is_too.kept l.blocks m.blocks same.blocks is.is_kept is_too.is_kept is.blocks_are is_too.blocks_are in
+    let both : layout_with l.page l.width l.height l.black l.kept l.median l.image l.whites l.gutters l.blocks l.cells l.lines l.order l.areas l.with_words l.words ≡ layout_with m.page m.width m.height m.black m.kept m.median m.image m.whites m.gutters m.blocks m.cells m.lines m.order m.areas m.with_words m.words = cc in
     both
 
 pub one_layout : Laws → LayoutIsUnique
@@ -208,15 +229,23 @@ image_in plan = plan.image
 shows_in : Plan → Bool
 shows_in plan = plan.words
 
+cuts_in : Plan → Bool
+cuts_in plan = plan.xy
+
+smears_in : Plan → Bool
+smears_in plan = plan.blocks
+
 -- plans of the same words as plans that ask for the same
 also_same : (p q p' q' : Plan) → p' ≡ p → q' ≡ q → AskTheSame p q → AskTheSame p' q'
-unfolding make_in rects_in image_in shows_in
+unfolding make_in rects_in image_in shows_in cuts_in smears_in
 also_same p q p' q' first second same =
     record {
       rects = ap rects_in first ∙ same.rects ∙ sym (ap rects_in second);
       image = ap image_in first ∙ same.image ∙ sym (ap image_in second);
       make = ap make_in first ∙ same.make ∙ sym (ap make_in second);
       words = ap shows_in first ∙ same.words ∙ sym (ap shows_in second);
+      cells = ap cuts_in first ∙ same.cells ∙ sym (ap cuts_in second);
+      blocks = ap smears_in first ∙ same.blocks ∙ sym (ap smears_in second);
     }
 
 -- an input spells one list of pages

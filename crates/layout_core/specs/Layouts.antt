@@ -1,5 +1,5 @@
 -- The layout of a page, and those of the pages of an input.
-use Rattle.std.specs.Prelude.{◌≡◌, ◌<◌, ◌≤◌, ⊤, ℕ, ◌+◌, List, [], ◌∷◌, length, map, max}
+use Rattle.std.specs.Prelude.{◌≡◌, ◌<◌, ◌≤◌, ◌⊎◌, ⊤, true, ℕ, ◌+◌, List, [], ◌∷◌, length, map, max}
 use Rattle.page_runs.specs.Page.{Page}
 use Rattle.page_runs.specs.Black.{black_of}
 use Rattle.layout_geom.specs.declared.rect.Rect.{Rect}
@@ -18,6 +18,8 @@ use Rattle.hocr_writer.specs.Listing.{listing_of}
 use Rattle.command_words.specs.declared.plan.Plan.{Plan}
 use Rattle.layout_core.specs.Numbering.{box_of, IsNumbered}
 use Rattle.layout_core.specs.WordRows.{AreShownWords}
+use Rattle.layout_core.specs.ShownCells.{AreShownCells}
+use Rattle.layout_core.specs.ShownBlocks.{IsBlockSmear, AreShownBlocks}
 use Rattle.layout_core.specs.declared.page_layout.TheConstants.{LEAST_SIZE}
 use Rattle.layout_core.specs.declared.page_layout.CoreFault.{CoreFault}
 use Rattle.layout_core.specs.declared.page_layout.CoreFault.TheVariants as faults
@@ -25,7 +27,8 @@ use Rattle.layout_core.specs.declared.page_layout.CoreFault.TheVariants as fault
 -- The layout of a page by a plan, as the page of a number: its kept components, the greedy cover of its white space by at most as many rectangles as
 -- planned, each at least as wide and as high as the median height and as 8 pixels, the gutters among them, the greedy lines of its
 -- text in the order of their numbers, the order in which they are read, or the cycle that forbids one, the areas that their
--- listing falls into, and, where the plan shows them, the words of each line by its number.
+-- listing falls into, and, where the plan shows them, the words of each line by its number, the cells of the kept boxes, and the
+-- blocks of the page.
 pub record IsLayoutAs (number : ℕ) (plan : Plan) (page : Page) (layout : Layout) : Type 0 where
   pub kept : Kept
   pub is_kept : IsKeptOf page kept
@@ -47,6 +50,8 @@ pub record IsLayoutAs (number : ℕ) (plan : Plan) (page : Page) (layout : Layou
   pub areas_are : AreAreasOf (map box_of layout.lines) (listing_of layout) kept.median layout.areas
   pub with_words_is : layout.with_words ≡ plan.words
   pub words_are : AreShownWords plan.words kept numbered.numbered layout.words
+  pub cells_are : AreShownCells plan.xy kept layout.cells
+  pub blocks_are : AreShownBlocks plan.blocks page kept.median layout.blocks
 
 -- The layout of a page that stands alone, or first: its number is 0.
 abbrev pub IsLayout : Plan → Page → Layout → Type 0
@@ -70,11 +75,36 @@ pub record HasFewComponents (page : Page) : Type 0 where
   pub few : length boxes ≤ MAX_KEPT
 
 -- so many components of the page are kept, and that is more than 60,000
-pub record HasTooMany (page : Page) (count : ℕ) : Type 0 where
+pub record HasTooManyComponents (page : Page) (count : ℕ) : Type 0 where
   pub counted : IsKeptCount page count
   pub many : MAX_KEPT < count
 
--- why a page has no layout
-abbrev pub IsCoreFault : Page → CoreFault → Type 0
-IsCoreFault page (faults.TooMany count) = HasTooMany page count
-IsCoreFault page faults.Memory = ⊤
+-- the smear of a page of few components has few components of its own
+pub record HasFewBlocks (page : Page) : Type 0 where
+  pub kept : Kept
+  pub is_kept : IsKeptOf page kept
+  pub smear : Page
+  pub is_smear : IsBlockSmear page kept.median smear
+  pub few : HasFewComponents smear
+
+-- the smear of a page of few components has so many, which are too many
+pub record HasTooManyBlocks (page : Page) (count : ℕ) : Type 0 where
+  pub kept : Kept
+  pub is_kept : IsKeptOf page kept
+  pub smear : Page
+  pub is_smear : IsBlockSmear page kept.median smear
+  pub many : HasTooManyComponents smear count
+
+-- at most 60,000 components of the page are kept, and it has at most 60,000 blocks where the plan shows them
+pub record HasFew (plan : Plan) (page : Page) : Type 0 where
+  pub components : HasFewComponents page
+  pub blocks : plan.blocks ≡ true → HasFewBlocks page
+
+-- it has so many components, which are too many, or few components and so many blocks, which the plan shows and which are too many
+abbrev pub HasTooMany : Plan → Page → ℕ → Type 0
+HasTooMany plan page count = HasTooManyComponents page count ⊎ ((plan.blocks ≡ true) × HasTooManyBlocks page count)
+
+-- why a page has no layout by the plan
+abbrev pub IsCoreFault : Plan → Page → CoreFault → Type 0
+IsCoreFault plan page (faults.TooMany count) = HasTooMany plan page count
+IsCoreFault plan page faults.Memory = ⊤

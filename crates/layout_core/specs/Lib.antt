@@ -1,6 +1,8 @@
 -- What a run makes of the pages of an input, and how it ends.
 pub mod Numbering
 pub mod WordRows
+pub mod ShownCells
+pub mod ShownBlocks
 pub mod Layouts
 pub mod Found
 pub mod Run

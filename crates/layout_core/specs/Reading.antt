@@ -12,7 +12,7 @@ use Rattle.page_runs.specs.Packed.{Packed, Holds, IsWhole}
 use Rattle.hocr_writer.specs.declared.layout.Layout.{Layout}
 use Rattle.command_words.specs.declared.plan.Plan.{Plan}
 use Rattle.layout_core.specs.declared.refusal.Refusal.{Refusal}
-use Rattle.layout_core.specs.Layouts.{HasFewComponents, AreLayouts}
+use Rattle.layout_core.specs.Layouts.{HasFew, AreLayouts}
 use Rattle.layout_core.specs.Run.{ReadsWhole}
 use Rattle.layout_core.specs.Status.{HasRefusalCause, RefusesLayouts}
 
@@ -60,8 +60,8 @@ pub record AnswersNext (old new : ImagesView) (source later : SourceView) (resul
       → ReadsRows before pages new later rows))
   pub end : IfOk result (λ next. IfNone next ((before : SourceView) (pages : List Page) → HasRead before pages old source
       → ReadsWhole before later pages))
-  pub refused : IfErr result (λ refusal. (before : SourceView) (pages : List Page) → HasRead before pages old source
-      → All HasFewComponents pages → RefusesLayouts before later refusal)
+  pub refused : IfErr result (λ refusal. (plan : Plan) (before : SourceView) (pages : List Page) → HasRead before pages old source
+      → All (HasFew plan) pages → RefusesLayouts plan before later refusal)
   pub cause : HasRefusalCause source later result
 
 -- The layouts of the pages that were read so far.

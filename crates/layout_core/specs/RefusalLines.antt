@@ -32,8 +32,8 @@ fault_line faults.Memory = codes "out of memory\n"
 
 -- the words that a program takes
 abbrev pub usage_of : Program → List ℕ
-usage_of Alone = codes "usage: layout1 [--rects N] [--image NAME] [--make SEED] [--words]\n"
-usage_of Shared = codes "usage: layout [--workers N] [--rects N] [--image NAME] [--make SEED] [--words]\n"
+usage_of Alone = codes "usage: layout1 [--rects N] [--image NAME] [--make SEED] [--words] [--blocks] [--xy]\n"
+usage_of Shared = codes "usage: layout [--workers N] [--rects N] [--image NAME] [--make SEED] [--words] [--blocks] [--xy]\n"
 
 -- the line of a run that ended without a document
 unfoldable pub refusal_line : Refusal → List ℕ

@@ -37,6 +37,10 @@ IsPlanned program words = (plan : Plan) × HasPlan program words plan
 abbrev pub IsReading : Program → List (List ℕ) → Type 0
 IsReading program words = (plan : Plan) × HasPlan program words plan × (plan.make ≡ None)
 
+-- They tell it to read pages by a plan of which this holds.
+abbrev pub ReadsBy : Program → List (List ℕ) → (Plan → Type 0) → Type 0
+ReadsBy program words Holds = (plan : Plan) × HasPlan program words plan × (plan.make ≡ None) × Holds plan
+
 -- They tell it to make a page from a seed.
 abbrev pub IsMaking : Program → List (List ℕ) → Type 0
 IsMaking program words = (plan : Plan) × (seed : ℕ) × HasPlan program words plan × (plan.make ≡ Some seed)

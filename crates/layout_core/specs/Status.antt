@@ -10,8 +10,9 @@ use Rattle.pbm_reader.specs.Page.{Page}
 use Rattle.pbm_reader.specs.Images.{SpellsPages}
 use Rattle.command_words.specs.declared.plan.Program.{Program}
 use Rattle.command_words.specs.Plans.{HasNoPlan}
-use Rattle.layout_core.specs.Layouts.{HasFewComponents}
-use Rattle.layout_core.specs.Run.{RunAccount, IsPlanned, IsReading, IsMaking, WritesOutput, WritesFront}
+use Rattle.command_words.specs.declared.plan.Plan.{Plan}
+use Rattle.layout_core.specs.Layouts.{HasFew}
+use Rattle.layout_core.specs.Run.{RunAccount, IsPlanned, IsReading, ReadsBy, IsMaking, WritesOutput, WritesFront}
 use Rattle.layout_core.specs.Owed.{Owes, IsOwed, DecidesNoRefusal}
 use Rattle.layout_core.specs.RefusalLines.{refusal_line}
 use Rattle.layout_core.specs.declared.refusal.Refusal.{Refusal}
@@ -49,26 +50,26 @@ Says run refusal = WritesText run.err_before run.err_after (refusal_line refusal
 
 -- ---- why a layout was refused
 
--- To the input, or to some input where the source does not tell it, the refusal of so many components is owed.
-pub record OwesTooMany (source : SourceView) (count : ℕ) : Type 0 where
+-- To the input, or to some input where the source does not tell it, the refusal of so many components or blocks is owed.
+pub record OwesTooMany (plan : Plan) (source : SourceView) (count : ℕ) : Type 0 where
   pub input : List ℕ
   pub is_left : IfSome source.left (λ left. left ≡ input)
-  pub owes : Owes input (refusals.TooMany count)
+  pub owes : Owes plan input (refusals.TooMany count)
 
 -- A read failed, and these bytes, which were taken of the input, decide no refusal.
-pub record StopsUndecided (before after : SourceView) : Type 0 where
+pub record StopsUndecided (plan : Plan) (before after : SourceView) : Type 0 where
   pub taken : List ℕ
   pub took : Took before after taken
-  pub undecided : DecidesNoRefusal taken
+  pub undecided : DecidesNoRefusal plan taken
 
 -- Why there are no layouts of what was left of the input.
-abbrev pub RefusesLayouts : SourceView → SourceView → Refusal → Type 0
-RefusesLayouts before after (refusals.Page faults.ReadFault) = StopsUndecided before after
-RefusesLayouts before after (refusals.Page faults.Memory) = ⊤
-RefusesLayouts before after (refusals.Page fault) = IfSome before.left (λ input. Owes input (refusals.Page fault))
-RefusesLayouts before after (refusals.TooMany count) = OwesTooMany before count
-RefusesLayouts before after refusals.Memory = ⊤
-RefusesLayouts before after refusal = ⊥
+abbrev pub RefusesLayouts : Plan → SourceView → SourceView → Refusal → Type 0
+RefusesLayouts plan before after (refusals.Page faults.ReadFault) = StopsUndecided plan before after
+RefusesLayouts plan before after (refusals.Page faults.Memory) = ⊤
+RefusesLayouts plan before after (refusals.Page fault) = IfSome before.left (λ input. Owes plan input (refusals.Page fault))
+RefusesLayouts plan before after (refusals.TooMany count) = OwesTooMany plan before count
+RefusesLayouts plan before after refusals.Memory = ⊤
+RefusesLayouts plan before after refusal = ⊥
 
 -- Want of memory, in the reader or elsewhere.
 abbrev pub IsWantOfMemory : Refusal → Type 0
@@ -84,9 +85,9 @@ abbrev pub ToldWhole : SourceView → SourceView → List ℕ → Type 0
 ToldWhole before after input = (before.left ≡ Some input) × ¬ Rose before.faults after.faults
 
 -- What is wanted of the pages of an input was answered, or a refusal with its cause.
-pub record AnswersPages {T : Type 0} (before after : SourceView) (result : Result T Refusal) (IsWanted : T → Type 0) : Type 0 where
+pub record AnswersPages {T : Type 0} (plan : Plan) (before after : SourceView) (result : Result T Refusal) (IsWanted : T → Type 0) : Type 0 where
   pub wanted : IfOk result IsWanted
-  pub refused : IfErr result (RefusesLayouts before after)
+  pub refused : IfErr result (RefusesLayouts plan before after)
   pub cause : HasRefusalCause before after result
 
 -- The text was written to `out`, or the line of a refusal to `err`, and the status says which.
@@ -101,22 +102,22 @@ pub record Finishes {T : Type 0} (ErrStays OutStays : Type 0) (out_before out_af
 -- ---- how a run ends
 
 -- The refusal of a fault of this status is owed to the input, and the line names the fault.
-pub record RefusesPage (status : ℕ) (run : RunAccount) : Type 0 where
+pub record RefusesPage (status : ℕ) (plan : Plan) (run : RunAccount) : Type 0 where
   pub fault : PageFault
   pub status_is : fault_status fault ≡ status
-  pub owes : IfSome run.source_before.left (λ input. Owes input (refusals.Page fault))
+  pub owes : IfSome run.source_before.left (λ input. Owes plan input (refusals.Page fault))
   pub line : Says run (refusals.Page fault)
 
--- The refusal of too many components of a page is owed to the input, and the line counts them.
-pub record RefusesComponents (run : RunAccount) : Type 0 where
+-- The refusal of too many components or blocks of a page is owed to the input, and the line counts them.
+pub record RefusesComponents (plan : Plan) (run : RunAccount) : Type 0 where
   pub count : ℕ
-  pub too_many : OwesTooMany run.source_before count
+  pub too_many : OwesTooMany plan run.source_before count
   pub line : Says run (refusals.TooMany count)
 
 -- A read failed, what was taken of the input decides no refusal, and the line says that a read failed.
-pub record FailsToRead (run : RunAccount) : Type 0 where
+pub record FailsToRead (plan : Plan) (run : RunAccount) : Type 0 where
   pub failed : Rose run.source_before.faults run.source_after.faults
-  pub stops : StopsUndecided run.source_before run.source_after
+  pub stops : StopsUndecided plan run.source_before run.source_after
   pub line : Says run (refusals.Page faults.ReadFault)
 
 -- A write to `out` failed, a proper front of the output was written, and the line says that a write failed.
@@ -145,12 +146,12 @@ pub record IsRun (SourceStays OutStays ErrStays : Type 0) (run : RunAccount) : T
   -- 2: the words have no plan, nothing was read, and the line tells which words the program takes.
   pub usage : run.status ≡ 2 → HasNoPlan run.program run.words × SourceStays × Says run (refusals.Usage run.program)
   -- 3: the words plan to read, the refusal of a fault of this status is owed to the input, and the line names it.
-  pub bad_page : run.status ≡ 3 → IsReading run.program run.words × RefusesPage 3 run
+  pub bad_page : run.status ≡ 3 → ReadsBy run.program run.words (λ plan. RefusesPage 3 plan run)
   -- 4: the words plan to read, and owed to the input is the refusal of a fault of this status, or of more than 60,000 kept
-  -- components of a page.
-  pub limited : run.status ≡ 4 → IsReading run.program run.words × (RefusesPage 4 run ⊎ RefusesComponents run)
+  -- components of a page or of its smear.
+  pub limited : run.status ≡ 4 → ReadsBy run.program run.words (λ plan. RefusesPage 4 plan run ⊎ RefusesComponents plan run)
   -- 5: the words plan to read, and a read failed before the bytes that were taken decided a refusal.
-  pub read_fault : run.status ≡ 5 → IsReading run.program run.words × FailsToRead run
+  pub read_fault : run.status ≡ 5 → ReadsBy run.program run.words (λ plan. FailsToRead plan run)
   -- 6: the output is known, a write to `out` failed, and a proper front was written.
   pub write_fault : run.status ≡ 6 → FailsToWrite run
   -- 7: the line says that memory was refused.
@@ -164,10 +165,10 @@ pub record IsRun (SourceStays OutStays ErrStays : Type 0) (run : RunAccount) : T
   -- The refusal that is owed ends the run with its status, unless a read failed or memory was refused.
   pub owed : (input : List ℕ) (refusal : Refusal) → ToldWhole run.source_before run.source_after input
       → IsOwed run.program run.words input refusal → EndsWith run (status_of refusal)
-  -- Completeness: an input that spells pages with few components each ends with its document written, unless a read or a write
-  -- failed or memory was refused.
-  pub complete : IsReading run.program run.words → (input : List ℕ) (pages : List Page)
-      → ToldWhole run.source_before run.source_after input → SpellsPages input pages → All HasFewComponents pages → EndsWritten run
+  -- Completeness: an input that spells pages with few components and blocks each ends with its document written, unless a read or
+  -- a write failed or memory was refused.
+  pub complete : (input : List ℕ) (pages : List Page) → ToldWhole run.source_before run.source_after input → SpellsPages input pages
+      → ReadsBy run.program run.words (λ plan. All (HasFew plan) pages) → EndsWritten run
   -- A run on a made page reads nothing.
   pub unread : IsMaking run.program run.words → SourceStays
   -- A run on a made page ends with its summary written, unless a write failed or memory was refused.

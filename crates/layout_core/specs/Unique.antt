@@ -15,6 +15,8 @@ pub record AskTheSame (p q : Plan) : Type 0 where
   pub image : p.image ≡ q.image
   pub make : p.make ≡ q.make
   pub words : p.words ≡ q.words
+  pub cells : p.xy ≡ q.xy
+  pub blocks : p.blocks ≡ q.blocks
 
 -- A page has one layout by plans that ask for the same.
 abbrev pub LayoutIsUnique : Type 0

@@ -1,4 +1,4 @@
-//! A run whose words have a plan, by any searchers.
+//! A run whose words have a plan, by any ways.
 ghost use Rattle.std.specs.Prelude.{◌≡◌, ◌≤◌, IfOk, IfErr, map, string_bytes};
 ghost use Rattle.command_words.specs.Plans.{HasPlan};
 ghost use Rattle.layout_core.specs.Status.{Finishes, Runs, change};
@@ -7,12 +7,14 @@ ghost use Rattle.layout_core.specs.Words.{RefusesWords};
 use crate::document::read_document;
 use crate::refusal::{Refusal, refuse};
 use crate::summary::make_summary;
+use crate::tasks::PageTasks;
 use box_search::Searcher;
 use command_words::{Plan, Program, WordFault, words_have_one_plan, words_of};
 use components::kept_is_unique;
 use layout_outside::{Sink, Source, put_all};
 use line_search::Grid;
 use pbm_reader::each_input_is_judged;
+use run_smear::smear_is_unique;
 use std::alloc::Global;
 use whitespace_cover::White;
 
@@ -38,13 +40,15 @@ pub(crate) struct Streams<'a, S: Source, K: Sink, E: Sink> {
     pub err: &'a mut E,
 }
 
-/// The ways to search for the parts of a layout.
+/// The ways to find the parts of a layout.
 #[derive(Drop)]
-pub struct Searchers<F: Searcher<White>, G: Searcher<Grid>> {
+pub struct Ways<F: Searcher<White>, G: Searcher<Grid>, T: PageTasks> {
     /// Searches for white rectangles.
     pub whites: F,
     /// Searches for text lines.
     pub lines: G,
+    /// Does what is no search.
+    pub tasks: T,
 }
 
 /// The plan of the words behind a program's name, or the refusal of words that have none.
@@ -79,14 +83,16 @@ fn finish<K: Sink, E: Sink>(text: Result<Vec<u8>, Refusal>, out: &mut K, err: &m
 
 /// Does what the job's plan says: reads the pages of the source and writes the document of their layouts to `out`, or makes the
 /// page of a seed and writes the summary of its layout. It answers the status of the run, which is not 2.
-pub(crate) fn lay_out<F: Searcher<White>, G: Searcher<Grid>, S: Source, K: Sink, E: Sink>(
-    alloc: Global,
-    job: &Job<'_>,
-    searchers: &mut Searchers<F, G>,
-    streams: Streams<'_, S, K, E>,
-) -> u8
+pub(crate) fn lay_out<
+    F: Searcher<White>,
+    G: Searcher<Grid>,
+    T: PageTasks,
+    S: Source,
+    K: Sink,
+    E: Sink,
+>(alloc: Global, job: &Job<'_>, ways: &mut Ways<F, G, T>, streams: Streams<'_, S, K, E>) -> u8
     requires planned { HasPlan job.now.program (map string_bytes job.now.words.now) job.now.plan }
-    requires ready { F.ready searchers.old.whites × G.ready searchers.old.lines }
+    requires ready { F.ready ways.old.whites × G.ready ways.old.lines × T.ready ways.old.tasks }
     requires some { 1 ≤ job.now.plan.rects }
     requires few { job.now.plan.rects ≤ 256 }
     ensures { Runs job.now.program (map string_bytes job.now.words.now)
@@ -95,18 +101,19 @@ pub(crate) fn lay_out<F: Searcher<White>, G: Searcher<Grid>, S: Source, K: Sink,
         (change E.view streams.entry.err.now streams.exit.1.1.0.now)
         result }
 {
-    // The laws of the words, of the format, and of a page's components.
+    // The laws of the words, of the format, and of a page's components and smear.
     words_have_one_plan();
     each_input_is_judged();
     kept_is_unique();
+    smear_is_unique();
     let Streams { source, out, err } = streams;
     match job.plan.make {
         Some(seed) => {
-            let text = make_summary(alloc, &job.plan, seed, searchers);
+            let text = make_summary(alloc, &job.plan, seed, ways);
             return finish(text, out, err);
         }
         None => {}
     }
-    let text = read_document(alloc, &job.plan, searchers, source);
+    let text = read_document(alloc, &job.plan, ways, source);
     finish(text, out, err)
 }

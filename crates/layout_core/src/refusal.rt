@@ -16,8 +16,8 @@ use pbm_reader::PageFault;
 use std::io;
 use std::io::ErrorKind;
 
-/// A line that takes no memory: the longest has 69 bytes.
-pub type Line = ArrayString<80>;
+/// A line that takes no memory: the longest has 97 bytes.
+pub type Line = ArrayString<128>;
 
 /// Why a run ended without a document.
 #[derive(Debug, Clone, Copy, PartialEq, Eq, Drop)]
@@ -161,7 +161,7 @@ fn line_of_fault(fault: &PageFault) -> Line
 
 /// A line that is always the same.
 fn line_from(text: &str) -> Line
-    requires { length text.now ≤ 80 }
+    requires { length text.now ≤ 128 }
     ensures { result.bytes ≡ text.now }
 {
     let mut line = Line::new();
@@ -190,11 +190,11 @@ fn line_of_usage(program: Program) -> Line
 {
     match program {
         Program::Alone => line_from(
-            "usage: layout1 [--rects N] [--image NAME] [--make SEED] [--words]\n",
+            "usage: layout1 [--rects N] [--image NAME] [--make SEED] [--words] [--blocks] [--xy]\n",
         ),
         Program::Shared => {
             line_from(
-                "usage: layout [--workers N] [--rects N] [--image NAME] [--make SEED] [--words]\n",
+                "usage: layout [--workers N] [--rects N] [--image NAME] [--make SEED] [--words] [--blocks] [--xy]\n",
             )
         },
     }

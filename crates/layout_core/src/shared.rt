@@ -5,9 +5,10 @@ ghost use Rattle.whitespace_cover.specs.Problem.{white_numbers, IsWhiteKey};
 ghost use Rattle.line_search.specs.Problem.{grid_numbers, IsGridKey};
 ghost use Rattle.layout_core.specs.Status.{Runs, change};
 
-use crate::job::{Job, Searchers, Streams, lay_out, plan_of};
+use crate::job::{Job, Streams, Ways, lay_out, plan_of};
 use crate::long_search::{FIRST_HEAD_START, best_of};
 use crate::refusal::refuse;
+use crate::tasks::ManyThreads;
 use box_search::FromFn;
 use command_words::Program;
 use layout_limits::{MAX_WORKERS, OutOfMemory};
@@ -62,11 +63,16 @@ pub fn layout_shared<R: Threads + Wait + Sync, S: Source, K: Sink, E: Sink, G: G
         words,
         plan,
     };
-    let mut searchers = Searchers { whites, lines };
+    let tasks = ManyThreads { rt, workers: count };
+    let mut ways = Ways {
+        whites,
+        lines,
+        tasks,
+    };
     let streams = Streams {
         source: src,
         out,
         err,
     };
-    lay_out(alloc, &job, &mut searchers, streams)
+    lay_out(alloc, &job, &mut ways, streams)
 }

@@ -2,8 +2,9 @@
 ghost use Rattle.std.specs.Prelude.{map, string_bytes};
 ghost use Rattle.layout_core.specs.Status.{Runs, change};
 
-use crate::job::{Job, Searchers, Streams, lay_out, plan_of};
+use crate::job::{Job, Streams, Ways, lay_out, plan_of};
 use crate::refusal::refuse;
+use crate::tasks::OneThread;
 use box_search::Alone;
 use command_words::Program;
 use layout_outside::{Sink, Source};
@@ -44,14 +45,15 @@ pub fn layout_alone<S: Source, K: Sink, E: Sink>(
         words,
         plan,
     };
-    let mut searchers = Searchers {
+    let mut ways = Ways {
         whites: Alone,
         lines: Alone,
+        tasks: OneThread,
     };
     let streams = Streams {
         source: src,
         out,
         err,
     };
-    lay_out(alloc, &job, &mut searchers, streams)
+    lay_out(alloc, &job, &mut ways, streams)
 }

@@ -32,6 +32,14 @@ impl Outcome {
         self.status == 0 && self.err.calls == 0 && self.out.as_slice() == text
     }
 
+    /// Whether this stands in what the run wrote.
+    pub(super) fn shows(&self, part: &[u8]) -> bool {
+        self.out
+            .as_slice()
+            .windows(part.len())
+            .any(|text| text == part)
+    }
+
     /// Whether the run ended with this status and this line, and wrote no document.
     pub(super) fn is_refusal(&self, status: u8, line: &[u8]) -> bool {
         self.status == status && self.err.as_slice() == line && self.out.calls == 0
@@ -63,7 +71,7 @@ impl Given<'_> {
     fn err(&self, alloc: Global) -> Result<MemSink, Fail>
         requires { 0 < self.now.piece }
     {
-        Ok(MemSink::with_room(alloc, 80, self.piece, Vec::new(alloc))?)
+        Ok(MemSink::with_room(alloc, 128, self.piece, Vec::new(alloc))?)
     }
 }
 

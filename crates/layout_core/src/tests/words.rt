@@ -24,10 +24,11 @@ const REFUSED: [&[&str]; 15] = [
     &["--words", "--make", "7"],
 ];
 
-const USAGE_ALONE: &[u8] = b"usage: layout1 [--rects N] [--image NAME] [--make SEED] [--words]\n";
+const USAGE_ALONE: &[u8] =
+    b"usage: layout1 [--rects N] [--image NAME] [--make SEED] [--words] [--blocks] [--xy]\n";
 
 const USAGE_SHARED: &[u8] =
-    b"usage: layout [--workers N] [--rects N] [--image NAME] [--make SEED] [--words]\n";
+    b"usage: layout [--workers N] [--rects N] [--image NAME] [--make SEED] [--words] [--blocks] [--xy]\n";
 
 // Whether a run ended for its words: nothing was read or written but the line.
 fn is_for_words(outcome: &Outcome, line: &[u8]) -> bool {

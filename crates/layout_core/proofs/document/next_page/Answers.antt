@@ -26,7 +26,7 @@ returns-in_err-next g c =
     let p = err_from_is_err_and c.from_residual.result c.from_residual.ensures.1 in
     let e = c.in_err-next.ensures in
     let judged = c.each_input_is_judged.ensures in
-    let laws = input_laws c.kept_is_unique.ensures judged.one_page judged.never_both judged.one_list judged.one_pages_fault judged.never_pages_and_fault in
+    let laws = input_laws c.kept_is_unique.ensures c.smear_is_unique.ensures.one_smear judged.one_page judged.never_both judged.one_list judged.one_pages_fault judged.never_pages_and_fault in
     rw (p.1, p.2)
     (next_fails laws c.args.images.now c.next.new.self (g.S.Source.view c.args.src.now) (g.S.Source.view c.next.new.src) c.in_err-next.field-0.0 e.fault e.ended e.cause.later
     (λ same. e.cause.failed (ap (λ (f : PageFault). let r : Result (Option Size) PageFault = Err f in r) same)))

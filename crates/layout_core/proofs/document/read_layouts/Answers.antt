@@ -67,8 +67,8 @@ returns-in_err-page g c =
     let p = err_from_is_err_and c.from_residual-in_err-page.result c.from_residual-in_err-page.ensures.1 in
     let low : before.faults ≤ later.faults = omega (arith, c.loop-layouts.invariant.faults, e.cause.later) in
     rw (p.1, p.2)
-    (answers_refused (ReadsLayouts c.args.plan.now before later) before later c.in_err-page.field-0.0 low
-    (e.refused before h.pages h.read (few_pages 0 c.args.plan.now h.pages c.loop-layouts.layouts h.are_layouts))
+    (answers_refused c.args.plan.now (ReadsLayouts c.args.plan.now before later) before later c.in_err-page.field-0.0 low
+    (e.refused c.args.plan.now before h.pages h.read (few_pages 0 c.args.plan.now h.pages c.loop-layouts.layouts h.are_layouts))
     (λ same. rose_from before.faults source.faults later.faults c.loop-layouts.invariant.faults (e.cause.failed (ap (λ r. Err r) same))))
 
 pub returns-in_err-layout : goal.returns-in_err-layout
@@ -82,6 +82,6 @@ returns-in_err-layout g c =
     let p = err_from_is_err_and c.from_residual-in_err-layout.result c.from_residual-in_err-layout.ensures.1 in
     let low : before.faults ≤ later.faults = omega (arith, c.loop-layouts.invariant.faults, c.next_page.ensures.cause.later) in
     rw (p.1, p.2)
-    (answers_refused (ReadsLayouts c.args.plan.now before later) before later (refusal_of fault) low
-    (core_refused before h.pages r.page fault (few_pages 0 c.args.plan.now h.pages c.loop-layouts.layouts h.are_layouts) (c.in_err-layout.ensures.fault r.page r.held) c.next_page.new.images later r.read)
+    (answers_refused c.args.plan.now (ReadsLayouts c.args.plan.now before later) before later (refusal_of fault) low
+    (core_refused c.args.plan.now before h.pages r.page fault (few_pages 0 c.args.plan.now h.pages c.loop-layouts.layouts h.are_layouts) (c.in_err-layout.ensures.fault r.page r.held) c.next_page.new.images later r.read)
     (λ same. absurd (not_read_fault fault same)))

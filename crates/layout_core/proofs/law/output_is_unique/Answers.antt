@@ -10,6 +10,8 @@ returns c =
       order = c.order_and_areas_are_unique.ensures.one_order;
       areas = c.order_and_areas_are_unique.ensures.one_list_of_areas;
       words = c.words_are_unique.ensures.one_list;
+      cells = c.cells_are_unique.ensures.one_list;
+      smear = c.smear_is_unique.ensures.one_smear;
     } in
     let one_list = c.each_input_is_judged.ensures.one_list in
     let one_plan = c.words_have_one_plan.ensures.one_plan in

@@ -32,4 +32,6 @@ returns-clause-layout g c =
       areas_are = is.areas_are;
       with_words_is = is.with_words_is;
       words_are = is.words_are;
+      cells_are = is.cells_are;
+      blocks_are = is.blocks_are;
     }
