@@ -15,5 +15,5 @@ one_smear page smear other h v is is_too =
     let wide : smear.width ≡ other.width = is.width_is ∙ sym is_too.width_is in
     let high : smear.height ≡ other.height = is.height_is ∙ sym is_too.height_is in
     let black : smear.is_black ≡ other.is_black = fun_ext λ x. fun_ext λ y.
-        same_test (smear.is_black x y) (other.is_black x y) (λ at. (is_too.blacks x y).1 ((is.blacks x y).0 at)) (λ at. (is.blacks x y).1 ((is_too.blacks x y).0 at)) in
+    same_test (smear.is_black x y) (other.is_black x y) (λ at. (is_too.blacks x y).1 ((is.blacks x y).0 at)) (λ at. (is.blacks x y).1 ((is_too.blacks x y).0 at)) in
     λ i. record { width = wide i; height = high i; is_black = black i }
