@@ -34,10 +34,11 @@ impl Outcome {
 
     /// Whether this stands in what the run wrote.
     pub(super) fn shows(&self, part: &[u8]) -> bool {
-        self.out
-            .as_slice()
-            .windows(part.len())
-            .any(|text| text == part)
+        if part.is_empty() {
+            return true;
+        }
+        let text = self.out.as_slice();
+        text.windows(part.len()).any(|window| window == part)
     }
 
     /// Whether the run ended with this status and this line, and wrote no document.
